@@ -1,4 +1,6 @@
 // Calls of a glass as values, so that one list of them can be given to many glasses.
+#![tactic(auto)]
+
 ghost use Rattle.std.specs.Prelude.{◌≡◌, ◌==◌};
 ghost use Rattle.glass.specs.Calls.{Untouched, left_by};
 ghost use Rattle.glass.specs.Faults.{answered};

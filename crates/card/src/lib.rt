@@ -1,4 +1,6 @@
 // A test card, drawn over a link by registers and colours alone.
+#![tactic(auto)]
+
 ghost use Rattle.std.specs.Prelude.{◌≡◌, ℕ, ◌-◌, ◌^◌, ◌<◌, min, length, slice_index};
 ghost use Rattle.lgdp4522.specs.Wired.{wired};
 ghost use Rattle.host.specs.Sent.{beats_of};

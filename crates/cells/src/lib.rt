@@ -1,4 +1,6 @@
 // Cell memory: one number for each cell of a screen.
+#![tactic(auto)]
+
 ghost use Rattle.std.specs.Prelude.{◌≡◌, ℕ, List, length, replicate, slice_index, slice_set};
 ghost use Rattle.pixel.specs.Addresses.{offset_at};
 ghost use Rattle.cells.specs.Memory.{cell_in, memory_met};

@@ -1,4 +1,6 @@
 // What a host sends for each call of a glass: registers, each as its index and its word, and then the index of colours.
+#![tactic(auto)]
+
 ghost use Rattle.std.specs.Prelude.{◌≡◌};
 ghost use Rattle.pixel.specs.Addresses.{place_of};
 ghost use Rattle.commands.specs.Commands.{edges, frame_items, go_items, ink_items, sleep_items};

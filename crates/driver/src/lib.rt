@@ -1,4 +1,6 @@
 // The controller on any link as a glass: each accepted call goes over the link as beats, and a refused one sends nothing.
+#![tactic(auto)]
+
 ghost use Rattle.std.specs.Prelude.{◌≡◌, true, false, length, if◌then◌else◌, Some, None};
 ghost use Rattle.pixel.specs.Addresses.{on_screen};
 ghost use Rattle.pixel.specs.Modes.{mode_of};

@@ -1,4 +1,6 @@
 // A glass: a screen as calls see it, cells that colours land on through one window and one place.
+#![tactic(auto)]
+
 ghost use Rattle.std.specs.Prelude.{◌≡◌, true, false, IfOk};
 ghost use Rattle.glass.specs.Faults.{answered, fault_layer, fault_number};
 ghost use Rattle.glass.specs.Panels.{Panel, Possible, Same};

@@ -1,4 +1,6 @@
 // The host's end of a link: a chip select, then the beats of an item.
+#![tactic(auto)]
+
 ghost use Rattle.std.specs.Prelude.{◌≡◌, ◌-◌, ◌^◌, min, true, [], ◌∷◌, length};
 ghost use Rattle.registers.specs.Chip.{obeyed};
 ghost use Rattle.lgdp4522.specs.Wired.{after_all, wired};

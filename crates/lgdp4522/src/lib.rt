@@ -1,4 +1,6 @@
 // The LGDP4522: registers and cell memory behind a link.
+#![tactic(auto)]
+
 ghost use Rattle.std.specs.Prelude.{◌≡◌, false, length};
 ghost use Rattle.cells.specs.Sizes.{fits_memory};
 ghost use Rattle.link.specs.Formats.{taken};

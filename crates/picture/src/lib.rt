@@ -1,4 +1,6 @@
 // A picture as text: one letter for each cell, one line for each row.
+#![tactic(auto)]
+
 ghost use Rattle.std.specs.Prelude.{◌≡◌, ◌-◌, ◌∷◌, ◌++◌, IfOk};
 ghost use Rattle.picture.specs.Letters.{letter_of, lettered, line_end, next_left};
 

@@ -1,4 +1,6 @@
 // Colours, rectangles, places, modes and addresses: what every crate above speaks of.
+#![tactic(auto)]
+
 ghost use Rattle.pixel.specs.Laws.{Laws};
 
 pub mod address;

@@ -1,4 +1,6 @@
 // The plain glass: cells in memory with no controller before them. It carries each colour unchanged.
+#![tactic(auto)]
+
 ghost use Rattle.std.specs.Prelude.{◌≡◌, false, length};
 ghost use Rattle.cells.specs.Sizes.{fits_memory};
 ghost use Rattle.glass.specs.Calls.{InkTaken, inked};

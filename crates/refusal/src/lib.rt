@@ -1,4 +1,6 @@
 // Layers: who found what a call was refused for.
+#![tactic(auto)]
+
 ghost use Rattle.std.specs.Prelude.{◌≡◌};
 ghost use Rattle.refusal.specs.Layers.{layer_name};
 

@@ -1,4 +1,6 @@
 // Tests of each register by its number, over the 16-bit link, whose beats are the words themselves.
+#![tactic(auto)]
+
 #[cfg(test)]
 mod tests {
     use cells::Lent;

@@ -1,4 +1,6 @@
 // The controller's registers, and what a word makes of them.
+#![tactic(auto)]
+
 ghost use Rattle.std.specs.Prelude.{◌≡◌};
 ghost use Rattle.pixel.specs.Modes.{stepped};
 ghost use Rattle.registers.specs.Registers.{by_bgr, power_on, set_columns, set_place, set_register, set_rows, spans, with_index, with_place, with_window, written};

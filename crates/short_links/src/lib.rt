@@ -1,4 +1,6 @@
 // The links that carry the short colour: 16-bit, 8-bit and serial.
+#![tactic(auto)]
+
 ghost use Rattle.std.specs.Prelude.{◌≡◌, ◌==◌};
 ghost use Rattle.short_links.specs.ShortFormats.{carried_short, short_item, short_word};
 

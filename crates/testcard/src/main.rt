@@ -1,4 +1,6 @@
 // Draws the test card over each of the five links, and prints it.
+#![tactic(auto)]
+
 use card::page::page;
 use std::io;
 use std::io::Write;

@@ -1,4 +1,6 @@
 // Cases worked by hand, held against the definitions that the contracts use and against the code.
+#![tactic(auto)]
+
 ghost use Rattle.std.specs.Prelude.{◌≡◌};
 ghost use Rattle.pixel.specs.Rects.{place_at};
 ghost use Rattle.worked.specs.Table.{Table};
