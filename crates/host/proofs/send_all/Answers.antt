@@ -10,7 +10,7 @@ loop-item-preserved g c =
     let t = c.send.new.chip in (
       omega arith,
       c.send.ensures.format ∙ c.loop-item.invariant.1,
-      count_again (g.L.Link.format q.link) (g.L.Link.format s.link) c.args.items.now c.loop-item.item-index _ c.loop-item.beats c.saturating-add-beats.result _ c.loop-item.invariant.1 c.loop-item-test.true (c.saturating-add-beats.ensures ∙ ap (λ n. min (c.loop-item.beats + n) (2 ^ 64 - 1)) c.send.ensures.count) c.loop-item.invariant.2,
+      count_again (g.L.Link.format q.link) (g.L.Link.format s.link) c.args.items.now c.loop-item.item-index _ c.loop-item.beats c.saturating_add-beats.result _ c.loop-item.invariant.1 c.loop-item-test.true (c.saturating_add-beats.ensures ∙ ap (λ n. min (c.loop-item.beats + n) (2 ^ 64 - 1)) c.send.ensures.count) c.loop-item.invariant.2,
       item_again (g.L.Link.format q.link) (g.L.Link.format s.link) c.args.items.now c.loop-item.item-index _ (wired g.L.Link.held g.M.CellMemory.cells s) (wired g.L.Link.held g.M.CellMemory.cells t) _ c.loop-item.invariant.1 c.loop-item-test.true c.send.ensures.after c.loop-item.invariant.3,
     )
 
