@@ -4,5 +4,5 @@ use Rattle.driver.proofs.Driver.aim.Goals as goal
 
 pub returns : goal.returns
 returns g c =
-    let d = frame_driven g.L.Link.format g.L.Link.held g.M.CellMemory.cells c.args.self.now (driver_of c.send-frame.new.chip (Some c.args.rect)) c.args.rect c.from_number.result c.args.mode c.args.mask c.from_number.ensures c.send-frame.ensures refl c.requires.taken c.requires.reached in
+    let d = frame_driven g.L.Link.format g.L.Link.held g.M.CellMemory.cells c.args.self.now (driver_of c.send_frame.new.chip (Some c.args.rect)) c.args.rect c.from_number.result c.args.mode c.args.mask c.from_number.ensures c.send_frame.ensures refl c.requires.taken c.requires.reached in
     record { stays = d.stays; after = d.after; format = d.same_format; beats = d.beats }

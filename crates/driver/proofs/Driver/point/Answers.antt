@@ -10,7 +10,7 @@ unwrap-requires g c = ap is_some (addressed g.L.Link.format g.L.Link.held g.M.Ce
 pub returns : goal.returns
 returns g c =
     let s = c.args.self.now in
-    let t = driver_of c.send-go.new.chip s.window in
+    let t = driver_of c.send_go.new.chip s.window in
     let items = go_items_of g.L.Link.format g.L.Link.held g.M.CellMemory.cells s t c.args.place c.of.result c.unwrap.result c.of.ensures c.unwrap.ensures in
-    let d = go_driven g.L.Link.format g.L.Link.held g.M.CellMemory.cells s t c.args.window c.args.place (go_items (place_of c.unwrap.result)) items c.send-go.ensures refl c.requires.taken c.requires.reached in
+    let d = go_driven g.L.Link.format g.L.Link.held g.M.CellMemory.cells s t c.args.window c.args.place (go_items (place_of c.unwrap.result)) items c.send_go.ensures refl c.requires.taken c.requires.reached in
     record { stays = d.stays; after = d.after; format = d.same_format; beats = d.beats }
