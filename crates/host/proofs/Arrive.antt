@@ -1,6 +1,6 @@
 -- Signals taken in order, and the items that they come to.
 use Rattle.std.proofs.Common.{◌≡◌, ℕ, zero, suc, ◌+◌, ◌-◌, ◌^◌, ◌<◌, ◌≤◌, min, Bool, true, false, cond, not, ◌&&◌, eqb, ltb, List, [], ◌∷◌, ◌++◌, length, get_or, drop, is_some, is_ok, Some, None, Ok, Err, Option, Result, sym, refl, ap, ◌∙◌, subst, arith}
-use Rattle.std.specs.List.{slice_get, AllByRecursion as All}
+use Rattle.std.specs.List.{slice_get, AllByRecursion}
 use Rattle.std.proofs.lemmas.List.{at_drop_more, at_drop_all}
 use Rattle.std.proofs.lemmas.Bool.{and_parts, cond-false, ltb-true, not-true}
 use Rattle.link.specs.declared.Item.{Item}
@@ -75,7 +75,7 @@ nth_within (y ∷ ys) (suc n) h = nth_within ys n (omega arith)
 pub beat_there : {B : Type 0} (f v : Format B) (i : Item) (n k : ℕ) (o : Option B) → v ≡ f → n < k → k ≡ length (f.beats i) → o ≡ slice_get (v.beats i) n → is_some o ≡ true
 beat_there f v i n k o same h ek e = ap is_some (e ∙ ap (λ g. slice_get (g.beats i) n) same) ∙ nth_within (f.beats i) n (omega arith)
 
-all_at : {X : Type 0} (P : X → Type 0) (xs : List X) (n : ℕ) (x : X) → All P xs → slice_get xs n ≡ Some x → P x
+all_at : {X : Type 0} (P : X → Type 0) (xs : List X) (n : ℕ) (x : X) → AllByRecursion P xs → slice_get xs n ≡ Some x → P x
 all_at P [] n x a e = absurd (let z : ◌≡◌ {A = ℕ} 0 1 = cc in omega arith)
 all_at P (y ∷ ys) zero x a e = let same : y ≡ x = cc in subst P same a.0
 all_at P (y ∷ ys) (suc n) x a e = all_at P ys n x a.1 e

@@ -1,6 +1,6 @@
 -- What a link is: how an item goes as beats, and how beats arrive as an item.
 use Rattle.std.specs.Prelude.{◌≡◌, ℕ, ◌<◌, Bool, true, false, cond, List, [], ◌∷◌, length, Some, None, Ok, Err, Option, Result}
-use Rattle.std.specs.List.{AllByRecursion as All}
+use Rattle.std.specs.List.{AllByRecursion}
 use Rattle.link.specs.declared.Item.{Item}
 use Rattle.link.specs.declared.Item.TheVariants.{Index, Word, Colour}
 use Rattle.link.specs.declared.Half.{Half}
@@ -64,4 +64,4 @@ pub record Lawful {B : Type 0} (f : Format B) : Type 0 where
   pub colour : (n : ℕ) → n < 262144 → Arrives f true true [] (f.beats (Colour n)) (Colour (f.carried n))
   pub carried_fits : (n : ℕ) → f.carried n < 262144
   pub count : (i : Item) → length (f.beats i) ≡ counted f.word_beats f.colour_beats i
-  pub narrow : (i : Item) → All (λ b. f.wide b ≡ false) (f.beats i)
+  pub narrow : (i : Item) → AllByRecursion (λ b. f.wide b ≡ false) (f.beats i)

@@ -1,13 +1,11 @@
 -- Places on a screen have addresses and offsets, each its own.
 use Rattle.std.proofs.Common.{◌≡◌, ℕ, ◌+◌, ◌*◌, ◌/◌, ◌%◌, ◌<◌, ◌≤◌, Bool, true, false, cond, ◌&&◌, ltb, Some, None, Option, sym, refl, ap, ◌∙◌, arith}
-use Rattle.std.proofs.lemmas.Bool.Decides.{nat_tests}
 use Rattle.std.proofs.lemmas.Bool.{and_from, and_parts, cond-true, lt-ltb, ltb-true}
 use Rattle.std.proofs.lemmas.Nat.{mul-add-lt, div-mul-add, mod-mul-add}
 use Rattle.pixel.specs.declared.address.Address.{Address}
 use Rattle.pixel.specs.declared.address.Offset.{Offset}
 use Rattle.pixel.specs.declared.rect.Place.{Place}
 use Rattle.pixel.specs.declared.rect.Size.{Size}
-use Rattle.pixel.specs.Rects.{place_at}
 use Rattle.pixel.specs.Addresses.{address_at, address_of, cell_index, offset_at, offset_of, on_screen, place_of, then_offset}
 
 -- a condition that gave something held

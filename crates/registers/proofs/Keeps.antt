@@ -1,5 +1,5 @@
 -- Every item keeps the controller sound.
-use Rattle.std.proofs.Common.{◌≡◌, ℕ, ◌+◌, ◌-◌, ◌*◌, ◌/◌, ◌%◌, ◌<◌, ◌≤◌, Bool, true, false, cond, not, ◌&&◌, eqb, ltb, leb, ◌⊎◌, List, length, get_or, set, replicate, Some, None, Option, sym, refl, ap, ◌∙◌, subst, inl, inr, arith}
+use Rattle.std.proofs.Common.{◌≡◌, ℕ, ◌-◌, ◌<◌, ◌≤◌, Bool, true, cond, not, ◌&&◌, eqb, leb, List, length, get_or, replicate, Some, None, Option, sym, refl, subst, inl, inr, arith}
 use Rattle.std.proofs.lemmas.Bool.Decides.{nat_tests}
 use Rattle.std.proofs.lemmas.Bool.{cases_eq, cond_both, cond-true}
 use Rattle.std.proofs.lemmas.List.{get_or-replicate, get_or-set_same, get_or-set_other, length-replicate, length-set}
@@ -9,15 +9,15 @@ use Rattle.pixel.specs.declared.rect.Rect.{Rect}
 use Rattle.pixel.specs.declared.rect.Size.{Size}
 use Rattle.pixel.specs.Colours.{met}
 use Rattle.pixel.specs.Rects.{fits_in, holds_place}
-use Rattle.pixel.specs.Modes.{start_corner, stepped}
+use Rattle.pixel.specs.Modes.{stepped}
 use Rattle.pixel.specs.Addresses.{address_at, offset_at, place_of}
 use Rattle.pixel.proofs.Meeting.{met_fits}
-use Rattle.pixel.proofs.Windows.{fits_parts, holds_parts, start_holds, step_holds}
+use Rattle.pixel.proofs.Windows.{start_holds, step_holds}
 use Rattle.cells.specs.Sizes.{fits_memory}
 use Rattle.link.specs.declared.Item.{Item}
 use Rattle.link.specs.declared.Item.TheVariants.{Index, Word, Colour}
 use Rattle.registers.specs.declared.Registers.{Registers}
-use Rattle.registers.specs.Registers.{by_bgr, columns, green_blue, power_on, red, rows, set_columns, set_place, set_register, set_rows, spans, whole_screen, with_mask, with_place, with_window}
+use Rattle.registers.specs.Registers.{by_bgr, columns, green_blue, power_on, red, rows, set_columns, set_place, set_register, set_rows, spans, with_mask, with_place, with_window}
 use Rattle.registers.specs.Chip.{Chip, Screen, Sound, WindowSound, chip_of, coloured, memory_met, obeyed}
 
 -- the screen of a controller that has a window

@@ -1,5 +1,5 @@
 -- The controller: registers and memory, and what an item makes of them.
-use Rattle.std.specs.Prelude.{◌≡◌, ℕ, ◌<◌, Bool, true, false, cond, List, length, Some, None, Option, ◌==◌, slice_index, slice_set}
+use Rattle.std.specs.Prelude.{◌≡◌, ℕ, ◌<◌, Bool, true, cond, List, length, Some, None, Option, ◌==◌, slice_index, slice_set}
 use Rattle.pixel.specs.declared.address.Offset.{Offset}
 use Rattle.pixel.specs.declared.rect.Place.{Place}
 use Rattle.pixel.specs.declared.rect.Rect.{Rect}

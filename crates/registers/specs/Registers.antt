@@ -1,5 +1,5 @@
 -- The registers, and what a word makes of them.
-use Rattle.std.specs.Prelude.{ℕ, ◌-◌, ◌/◌, ◌%◌, Bool, true, false, cond, not, ◌&&◌, Some, None, Option, ◌==◌, nat_le, nat_lt}
+use Rattle.std.specs.Prelude.{ℕ, ◌-◌, ◌/◌, ◌%◌, Bool, false, cond, not, ◌&&◌, Some, None, Option, ◌==◌, nat_le, nat_lt}
 use Rattle.pixel.specs.declared.mode.Mode.{Mode}
 use Rattle.pixel.specs.declared.rect.Place.{Place}
 use Rattle.pixel.specs.declared.rect.Rect.{Rect}
