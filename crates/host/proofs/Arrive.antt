@@ -1,17 +1,16 @@
 -- Signals taken in order, and the items that they come to.
-use Rattle.std.proofs.Common.{◌≡◌, ℕ, zero, suc, ◌+◌, ◌-◌, ◌^◌, ◌<◌, ◌≤◌, min, Bool, true, false, cond, not, ◌&&◌, eqb, ltb, List, [], ◌∷◌, ◌++◌, length, get_or, drop, is_some, is_ok, Some, None, Ok, Err, Option, Result, sym, refl, ap, ◌∙◌, subst, arith}
+use Rattle.std.proofs.Common.{◌≡◌, ℕ, zero, suc, ◌+◌, ◌-◌, ◌^◌, ◌<◌, ◌≤◌, min, Bool, true, false, not, ◌&&◌, eqb, ltb, List, [], ◌∷◌, ◌++◌, length, get_or, drop, is_some, is_ok, Some, Option, Result, sym, refl, ap, ◌∙◌, subst, arith}
 use Rattle.std.specs.List.{slice_get, AllByRecursion}
 use Rattle.std.proofs.lemmas.List.{at_drop_more, at_drop_all}
 use Rattle.std.proofs.lemmas.Bool.{and_parts, cond-false, ltb-true, not-true}
 use Rattle.link.specs.declared.Item.{Item}
 use Rattle.link.specs.declared.Item.TheVariants.{Index, Word, Colour}
 use Rattle.link.specs.declared.LinkFault.{LinkFault}
-use Rattle.link.specs.declared.LinkFault.TheVariants.{Wide}
 use Rattle.link.specs.Items.{select_level}
-use Rattle.link.specs.Formats.{Arrives, Format, Lawful, Taken, answer_to, held_after, taken}
+use Rattle.link.specs.Formats.{Arrives, Format, Lawful, Taken, held_after, taken}
 use Rattle.registers.specs.Chip.{Chip, at_22h, obeyed}
 use Rattle.registers.proofs.Keeps.{colour_index, word_index}
-use Rattle.lgdp4522.specs.Wired.{Signal, Wired, after_all, after_beat, after_one, beat, beat_answer, obeyed_if, select, selected, wired_of}
+use Rattle.lgdp4522.specs.Wired.{Signal, Wired, after_all, after_beat, after_one, beat_answer, obeyed_if, selected, wired_of}
 use Rattle.host.specs.Sent.{all_obeyed, as_carried, beat_signals, beats_of, expected, item_signals, signals}
 
 pub after_append : {B : Type 0} (f : Format B) (xs ys : List (Signal B)) (s : Wired B) → after_all f (xs ++ ys) s ≡ after_all f ys (after_all f xs s)

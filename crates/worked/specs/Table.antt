@@ -1,5 +1,5 @@
 -- Cases worked by hand, as one table.
-use Rattle.std.specs.Prelude.{◌≡◌, List, [], ◌∷◌, ℕ}
+use Rattle.std.specs.Prelude.{◌≡◌, [], ◌∷◌}
 use Rattle.pixel.specs.declared.rect.Rect.{Rect}
 use Rattle.pixel.specs.Colours.{met}
 use Rattle.pixel.specs.Rects.{place_at}

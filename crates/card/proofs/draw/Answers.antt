@@ -1,5 +1,4 @@
 use Rattle.std.proofs.Common.{refl}
-use Rattle.registers.specs.Chip.{chip_of}
 use Rattle.card.specs.Cards.{card_cells, card_items}
 use Rattle.card.proofs.Drawn.{drawn}
 use Rattle.card.proofs.draw.Goals as goal

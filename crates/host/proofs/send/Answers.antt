@@ -1,4 +1,4 @@
-use Rattle.std.proofs.Common.{◌≡◌, ◌<◌, ◌≤◌, length, ap, ◌∙◌, subst, arith}
+use Rattle.std.proofs.Common.{◌<◌, ◌≤◌, length, ap, ◌∙◌, subst, arith}
 use Rattle.lgdp4522.specs.Wired.{wired}
 use Rattle.host.proofs.Arrive.{ItemSent, accepted, beat_again, beat_by, beat_there, counted_by, item_sent}
 use Rattle.host.proofs.send.Goals as goal

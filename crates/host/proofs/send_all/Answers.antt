@@ -1,4 +1,4 @@
-use Rattle.std.proofs.Common.{◌≡◌, ◌+◌, ◌-◌, ◌^◌, min, sym, refl, ap, ◌∙◌, arith}
+use Rattle.std.proofs.Common.{◌+◌, ◌-◌, ◌^◌, min, ap, ◌∙◌, arith}
 use Rattle.lgdp4522.specs.Wired.{wired}
 use Rattle.host.proofs.Arrive.{count_again, item_again, items_sent}
 use Rattle.host.proofs.send_all.Goals as goal

@@ -1,4 +1,4 @@
-use Rattle.std.proofs.Common.{◌≡◌, ◌++◌, vec_items, string_bytes, ap, ◌∙◌}
+use Rattle.std.proofs.Common.{◌++◌, vec_items, string_bytes, ap, ◌∙◌}
 use Rattle.card.proofs.Written.{card_added}
 use Rattle.card.proofs.page.add_card.Goals as goal
 

@@ -1,4 +1,4 @@
-use Rattle.std.proofs.Common.{◌≡◌, ◌++◌, vec_items, ap, ◌∙◌}
+use Rattle.std.proofs.Common.{vec_items, ◌∙◌}
 use Rattle.card.proofs.Written.{page_done}
 use Rattle.card.proofs.page.page.Goals as goal
 
