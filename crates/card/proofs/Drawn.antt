@@ -1,4 +1,4 @@
--- Items sent to a controller at power_on, and the cells that it then shows.
+-- Items sent to a controller at power-on, and the cells that it then shows.
 use Rattle.std.proofs.Common.{◌≡◌, ℕ, ◌-◌, ◌/◌, ◌%◌, ◌^◌, ◌<◌, min, true, List, length, get_or, replicate, unwrap_or, sym, ap, ◌∙◌, arith}
 use Rattle.std.proofs.lemmas.List.{ext_get_or}
 use Rattle.pixel.specs.declared.rect.Size.{Size}
@@ -26,7 +26,7 @@ shown_is s k e h =
 all_shown : (s : Chip) (r : List ℕ) → s.registers.size ≡ size_of 8 4 → length s.memory ≡ 32 → length r ≡ 32 → ((k : ℕ) → k < 32 → get_or r k 0 ≡ shown_at s k) → r ≡ s.memory
 all_shown s r es em er each = ext_get_or 0 r s.memory (er ∙ sym em) (λ k h. let l : k < 32 = omega arith in each k l ∙ shown_is s k es l)
 
--- what items leave at power_on
+-- what items leave at power-on
 abbrev pub left_by : {B : Type 0} → Format B → List Item → Size → ℕ → Chip
 left_by f items size n = all_obeyed f items (chip_of (replicate n 0) (power_on size))
 

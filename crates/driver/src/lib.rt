@@ -35,7 +35,7 @@ pub struct Driver<L: Link, M: CellMemory> {
 }
 
 impl<L: Link, M: CellMemory> Driver<L, M> {
-    // A controller at power_on, every cell 0. Where `check` refuses size and memory it is one of 0 × 0, and the memory is untouched.
+    // A controller at power-on, every cell 0. Where `check` refuses size and memory it is one of 0 × 0, and the memory is untouched.
     pub fn fit(link: L, memory: M, size: Size) -> Self
         ensures reached { DriverReached M.CellMemory.cells result }
         ensures new { Same (driver_panel L.Link.format M.CellMemory.cells result) (new_panel (fitted_size size (length (M.CellMemory.cells memory))) (L.Link.format link).carried) }

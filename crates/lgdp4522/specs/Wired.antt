@@ -22,7 +22,7 @@ wired_of h s = record { held = h; chip = s }
 abbrev pub wired : {B L M : Type 0} → (L → List (Taken B)) → (M → List ℕ) → Lgdp4522 L M → Wired B
 wired held cells s = wired_of (held s.link) (chip_of (cells s.memory) s.registers)
 
--- fitted: power_on and every cell 0; a size that does not fit the memory gives 0 × 0, and the memory stays
+-- fitted: power-on and every cell 0; a size that does not fit the memory gives 0 × 0, and the memory stays
 abbrev pub fitted_chip : Bool → Size → List ℕ → Chip
 fitted_chip true s cells = chip_of (replicate (length cells) 0) (power_on s)
 fitted_chip false s cells = chip_of cells (power_on (size_of 0 0))

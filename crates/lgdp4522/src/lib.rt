@@ -28,7 +28,7 @@ pub struct Lgdp4522<L, M> {
 }
 
 impl<L: Link, M: CellMemory> Lgdp4522<L, M> {
-    // A controller at power_on, every cell 0. Where `check` refuses size and memory it is one of 0 × 0, and the memory is untouched.
+    // A controller at power-on, every cell 0. Where `check` refuses size and memory it is one of 0 × 0, and the memory is untouched.
     pub fn fit(mut link: L, mut memory: M, size: Size) -> Self
         ensures format { L.Link.format result.link ≡ L.Link.format link }
         ensures fitted { wired L.Link.held M.CellMemory.cells result ≡ fitted (fits_memory size (length (M.CellMemory.cells memory))) size (M.CellMemory.cells memory) }

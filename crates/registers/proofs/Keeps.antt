@@ -141,7 +141,7 @@ pub colour_index : (c : ℕ) (s : Chip) → (obeyed (Colour c) s).registers.inde
 colour_index c s =
     cond_both s.registers.asleep _ _ (λ (t : Chip). t.registers.index ≡ s.registers.index) (λ _. refl) (λ _. coloured_index s.registers.window c s)
 
--- at power_on, with every cell 0
+-- at power-on, with every cell 0
 pub fitted_sound : (n : ℕ) (s : Size) → fits_memory s n ≡ true → Sound (chip_of (replicate n 0) (power_on s))
 fitted_sound n s e =
     let w : 1 ≤ s.width = grind (arith, nat_tests) in

@@ -83,7 +83,7 @@ whole_screen s =
     cond (nat_le 1 s.width && nat_le 1 s.height)
     (Some (record { left = 0; top = 0; right = s.width - 1; bottom = s.height - 1 })) None
 
--- power_on: place (0, 0), mode 6, mask 0, BGR 0, index 0, awake
+-- power-on: place (0, 0), mode 6, mask 0, BGR 0, index 0, awake
 abbrev pub power_on : Size → Registers
 power_on s = record { size = s; window = whole_screen s; place = place_at 0 0; mode = mode_of 6; bgr = false; mask = 0; index = 0; asleep = false }
 
