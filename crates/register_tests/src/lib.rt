@@ -5,7 +5,6 @@
 mod tests {
     use cells::Lent;
     use lgdp4522::Lgdp4522;
-    use link::Link;
     use pixel::rect::{Place, Size};
     use short_links::sixteen::SixteenBit;
 
