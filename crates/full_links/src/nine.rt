@@ -1,5 +1,5 @@
 // The 9-bit link: two beats, upper first. A word's byte travels in bits 8 to 1; a colour is its upper and lower nine bits.
-ghost use Rattle.std.specs.Prelude.{◌≡◌, [], None};
+ghost use Rattle.std.specs.Prelude.{◌≡◌, None};
 ghost use Rattle.link.specs.Formats.{held_half};
 ghost use Rattle.full_links.specs.FullFormats.{format_9};
 ghost use Rattle.std.proofs.Common.{rules};

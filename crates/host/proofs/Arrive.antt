@@ -131,7 +131,7 @@ item_again f v is n d s s2 e same h es inv =
 pub count_again : {B : Type 0} (f v : Format B) (is : List Item) (n : ℕ) (d : Item) (m k e : ℕ) → v ≡ f → n < length is → k ≡ min (m + length (v.beats (get_or is n d))) (2 ^ 64 - 1) → min (m + beats_of f (drop n is)) (2 ^ 64 - 1) ≡ e → min (k + beats_of f (drop (n + 1) is)) (2 ^ 64 - 1) ≡ e
 count_again f v is n d m k e same h ek inv =
     let more : min (m + beats_of f (drop n is)) (2 ^ 64 - 1) ≡ min (m + (length (f.beats (get_or is n d)) + beats_of f (drop (n + 1) is))) (2 ^ 64 - 1) = at_drop_more (λ l. min (m + beats_of f l) (2 ^ 64 - 1)) is n d h in
-    let now-k : k ≡ min (m + length (f.beats (get_or is n d))) (2 ^ 64 - 1) = ek ∙ ap (λ g. min (m + length (g.beats (get_or is n d))) (2 ^ 64 - 1)) same in
+    let now_k : k ≡ min (m + length (f.beats (get_or is n d))) (2 ^ 64 - 1) = ek ∙ ap (λ g. min (m + length (g.beats (get_or is n d))) (2 ^ 64 - 1)) same in
     omega arith
 
 pub record ItemsSent {B : Type 0} (f : Format B) (is : List Item) (k : ℕ) (s s0 : Wired B) : Type 0 where

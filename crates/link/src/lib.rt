@@ -1,7 +1,7 @@
 // Links: how items go to the controller as beats, and how beats arrive as items.
 #![tactic(auto)]
 
-ghost use Rattle.std.specs.Prelude.{◌≡◌, ℕ, List, [], length, ◌==◌};
+ghost use Rattle.std.specs.Prelude.{◌≡◌, List, [], length, ◌==◌};
 ghost use Rattle.std.specs.List.{slice_get};
 ghost use Rattle.link.specs.Items.{counted, item_of, select_level};
 ghost use Rattle.link.specs.Faults.{fault_layer, fault_number};

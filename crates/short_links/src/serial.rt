@@ -1,6 +1,6 @@
 // The serial link: a start byte, then two bytes to an item, as on the 8-bit link.
 ghost use Rattle.std.specs.Prelude.{◌≡◌};
-ghost use Rattle.short_links.specs.ShortFormats.{format_serial, held_serial, start_byte, starts};
+ghost use Rattle.short_links.specs.ShortFormats.{format_serial, held_serial, start_byte};
 ghost use Rattle.short_links.specs.declared.serial.Heard.TheVariants.{Nothing};
 ghost use Rattle.std.proofs.Common.{rules};
 

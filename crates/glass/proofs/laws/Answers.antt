@@ -8,20 +8,20 @@ use Rattle.glass.proofs.Sames.{possible_stands, same_itself, same_joined, same_t
 use Rattle.glass.proofs.laws.Goals as goal
 
 -- the fault of a number
-abbrev fault-of : ℕ → GlassFault
-fault-of n = cond (eqb n 2) Asleep (cond (eqb n 3) Window (cond (eqb n 4) Outside (cond (eqb n 5) Colour (cond (eqb n 6) Unseen UnknownMode))))
+abbrev fault_of : ℕ → GlassFault
+fault_of n = cond (eqb n 2) Asleep (cond (eqb n 3) Window (cond (eqb n 4) Outside (cond (eqb n 5) Colour (cond (eqb n 6) Unseen UnknownMode))))
 
-fault-back : (e : GlassFault) → fault-of (fault_number e) ≡ e
-fault-back Asleep = refl
-fault-back Window = refl
-fault-back Outside = refl
-fault-back Colour = refl
-fault-back Unseen = refl
-fault-back UnknownMode = refl
+fault_back : (e : GlassFault) → fault_of (fault_number e) ≡ e
+fault_back Asleep = refl
+fault_back Window = refl
+fault_back Outside = refl
+fault_back Colour = refl
+fault_back Unseen = refl
+fault_back UnknownMode = refl
 
 pub returns : goal.returns
 returns c = record {
-  known = λ e f h. sym (fault-back e) ∙ ap fault-of h ∙ fault-back f;
+  known = λ e f h. sym (fault_back e) ∙ ap fault_of h ∙ fault_back f;
   itself = same_itself;
   turned = same_turned;
   joined = same_joined;
