@@ -5,13 +5,13 @@ use Rattle.pixel.specs.declared.rect.Size.{Size}
 use Rattle.pixel.specs.Rects.{place_at, size_of}
 use Rattle.pixel.specs.Addresses.{cell_index, offset_at}
 use Rattle.pixel.proofs.Places.{offset_on}
-use Rattle.cells.specs.Sizes.{fits_memory}
+use Rattle.cells.specs.Memory.{cell_in}
 use Rattle.link.specs.declared.Item.{Item}
 use Rattle.link.specs.Formats.{Format}
 use Rattle.registers.specs.Registers.{power_on}
-use Rattle.registers.specs.Chip.{Chip, cell_in, chip_of}
+use Rattle.registers.specs.Chip.{Chip, chip_of}
 use Rattle.lgdp4522.specs.Wired.{Wired, fitted}
-use Rattle.host.specs.Sent.{all_obeyed, beats_of, expected}
+use Rattle.host.specs.Sent.{Went, all_obeyed, beats_of, expected}
 use Rattle.card.specs.Cards.{shown_at}
 
 -- on 8 × 4 the cells row by row are the memory
@@ -34,12 +34,12 @@ pub record Drawn {B : Type 0} (f : Format B) (items : List Item) (count : ℕ) (
   pub beats : count ≡ min (beats_of f items) (2 ^ 64 - 1)
   pub cells : r ≡ (left_by f items (size_of 8 4) 32).memory
 
-pub drawn : {B : Type 0} (f v : Format B) (items : List Item) (mem r : List ℕ) (count : ℕ) (s : Wired B) (chip : Chip) → v ≡ f → mem ≡ replicate 32 0 → s ≡ fitted (fits_memory (size_of 8 4) (length mem)) (size_of 8 4) mem → expected 0 items ≡ true → (left_by f items (size_of 8 4) 32).registers.size ≡ size_of 8 4 → length (left_by f items (size_of 8 4) 32).memory ≡ 32 → count ≡ min (beats_of v items) (2 ^ 64 - 1) → (expected s.chip.registers.index items ≡ true → chip ≡ all_obeyed v items s.chip) → length r ≡ 32 → ((k : ℕ) → k < 32 → get_or r k 0 ≡ shown_at chip k) → Drawn f items count r
-drawn f v items mem r count s chip same em made ok es el ec arrives er each =
-    let start : s ≡ fitted true (size_of 8 4) (replicate 32 0) = made ∙ ap (λ m. fitted (fits_memory (size_of 8 4) (length m)) (size_of 8 4) m) em in
-    let k : expected s.chip.registers.index items ≡ true = ap (λ t. expected t.chip.registers.index items) start ∙ ok in
-    let done : chip ≡ left_by f items (size_of 8 4) 32 = arrives k ∙ ap (λ g. all_obeyed g items s.chip) same ∙ ap (λ t. all_obeyed f items t.chip) start in
+pub drawn : {B : Type 0} (f : Format B) (items : List Item) (mem r : List ℕ) (count : ℕ) (s t : Wired B) → mem ≡ replicate 32 0 → s ≡ fitted f (size_of 8 4) mem → expected 0 items ≡ true → (left_by f items (size_of 8 4) 32).registers.size ≡ size_of 8 4 → length (left_by f items (size_of 8 4) 32).memory ≡ 32 → count ≡ min (beats_of s.link.format items) (2 ^ 64 - 1) → Went items s t → length r ≡ 32 → ((k : ℕ) → k < 32 → get_or r k 0 ≡ shown_at t.chip k) → Drawn f items count r
+drawn f items mem r count s t em made ok es el ec went er each =
+    let start : s ≡ fitted f (size_of 8 4) (replicate 32 0) = made ∙ ap (fitted f (size_of 8 4)) em in
+    let k : expected s.chip.registers.index items ≡ true = ap (λ w. expected w.chip.registers.index items) start ∙ ok in
+    let done : t.chip ≡ left_by f items (size_of 8 4) 32 = went.arrived k ∙ ap (λ w. all_obeyed w.link.format items w.chip) start in
     record {
-      beats = ec ∙ ap (λ g. min (beats_of g items) (2 ^ 64 - 1)) same;
-      cells = all_shown (left_by f items (size_of 8 4) 32) r es el er (λ n h. each n h ∙ ap (λ t. shown_at t n) done);
+      beats = ec ∙ ap (λ w. min (beats_of w.link.format items) (2 ^ 64 - 1)) start;
+      cells = all_shown (left_by f items (size_of 8 4) 32) r es el er (λ n h. each n h ∙ ap (λ c. shown_at c n) done);
     }

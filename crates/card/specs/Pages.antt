@@ -1,9 +1,9 @@
 -- The page that the test card's program prints.
-use Rattle.std.specs.Prelude.{ℕ, ◌-◌, ◌^◌, min, Bool, true, false, ◌&&◌, List, [], ◌∷◌, ◌++◌, codes, decimal}
-use Rattle.std.specs.Str.{bytes_eq}
+use Rattle.std.specs.Prelude.{◌≡◌, ℕ, ◌-◌, ◌^◌, min, Bool, true, false, List, [], ◌∷◌, ◌++◌, All, codes, decimal}
 use Rattle.link.specs.Formats.{Format}
 use Rattle.picture.specs.Letters.{lettered}
 use Rattle.host.specs.Sent.{beats_of}
+use Rattle.card.specs.declared.Card.{Card}
 use Rattle.card.specs.Cards.{card_cells, card_items}
 
 abbrev pub line : List ℕ → List ℕ
@@ -13,10 +13,11 @@ line text = text ++ (10 ∷ [])
 abbrev pub card_text : {B : Type 0} → List ℕ → Format B → List ℕ
 card_text name f = (name ++ (codes " link, " ++ (decimal (min (beats_of f card_items) (2 ^ 64 - 1)) ++ line (codes " beats")))) ++ lettered 8 8 (card_cells f)
 
--- the last line
-abbrev pub all_same : List ℕ → List ℕ → List ℕ → List ℕ → List ℕ → Bool
-all_same a b c d e = bytes_eq a b && bytes_eq a c && bytes_eq a d && bytes_eq a e
+-- whether the others have the picture of the first
+abbrev pub AllSame : Card → List Card → Type 0
+AllSame first others = All (λ c. c.cells ≡ first.cells) others
 
+-- the last line
 abbrev pub verdict : Bool → List ℕ
 verdict true = line (codes "the five pictures agree")
 verdict false = line (codes "the pictures do not agree")

@@ -13,6 +13,19 @@ use host::send_all;
 use lgdp4522::Lgdp4522;
 use link::{Item, Link};
 use pixel::rect::{Place, Size};
+use registers::register::Register;
+
+const MODE: Item = Item::Index(Register::EntryMode as u8);
+
+const COLUMNS: Item = Item::Index(Register::Columns as u8);
+
+const ROWS: Item = Item::Index(Register::Rows as u8);
+
+const PLACE: Item = Item::Index(Register::Address as u8);
+
+const RED_MASK: Item = Item::Index(Register::RedMask as u8);
+
+const COLOURS: Item = Item::Index(Register::Colours as u8);
 
 const K: Item = Item::Colour(0);
 
@@ -31,7 +44,7 @@ const Y: Item = Item::Colour(0x3efc0);
 const W: Item = Item::Colour(0x3effe);
 
 // What was drawn over a link: the beats that it took, and the cells row by row.
-#[derive(Drop)]
+#[derive(Clone, Copy, Debug, PartialEq, Eq, Hash)]
 pub struct Card {
     pub beats: usize,
     pub cells: [u32; 32],
@@ -39,8 +52,8 @@ pub struct Card {
 
 // Draws the card on a controller of 8 × 4 behind a link.
 pub fn draw<L: Link + Drop>(link: L) -> Card
-    ensures beats { result.beats ≡ min (beats_of (L.Link.format link) card_items) (2 ^ 64 - 1) }
-    ensures cells { result.cells ≡ card_cells (L.Link.format link) }
+    ensures beats { result.beats ≡ min (beats_of (L.state link).format card_items) (2 ^ 64 - 1) }
+    ensures cells { result.cells ≡ card_cells (L.state link).format }
 {
     let mut cells = [0; 32];
     let mut chip = Lgdp4522::fit(
@@ -58,15 +71,16 @@ pub fn draw<L: Link + Drop>(link: L) -> Card
     }
 }
 
-// The cells that a controller of 8 × 4 shows, row by row; 0 for one that is not there.
+// The cells that a controller of 8 × 4 shows, row by row; 0 for one that is not there. A loop and no `array::from_fn`: with
+// that the proof needs an induction of its own, beside which an edit of this code is no longer refused here.
 fn shown<L: Link, M: CellMemory>(chip: &Lgdp4522<L, M>) -> [u32; 32]
     ensures long { length result ≡ 32 }
-    ensures cells { (k : ℕ) → k < 32 → slice_index result k ≡ shown_at (wired L.Link.held M.CellMemory.cells chip.now).chip k }
+    ensures cells { (k : ℕ) → k < 32 → slice_index result k ≡ shown_at (wired L.state M.cells chip.now).chip k }
 {
     let mut cells = [0; 32];
-    for i in 0..32 {
-        let place = Place { x: i % 8, y: i / 8 };
-        cells[i as usize] = chip.cell(place).unwrap_or(0);
+    for (k, cell) in cells.iter_mut().enumerate() {
+        let (x, y) = ((k % 8) as u16, (k / 8) as u16);
+        *cell = chip.cell(Place { x, y }).unwrap_or(0);
     }
     cells
 }
@@ -74,13 +88,13 @@ fn shown<L: Link, M: CellMemory>(chip: &Lgdp4522<L, M>) -> [u32; 32]
 // Four parts, each with its mode (R03h), its window (R44h, R45h) and its colours (22h).
 const ITEMS: [Item; 70] = [
     // the eight colours along the top row: mode 6, right and down, row first
-    Item::Index(0x03),
+    MODE,
     Item::Word(0x0030),
-    Item::Index(0x44),
+    COLUMNS,
     Item::Word(0x0700),
-    Item::Index(0x45),
+    ROWS,
     Item::Word(0x0300),
-    Item::Index(0x22),
+    COLOURS,
     K,
     B,
     G,
@@ -90,13 +104,13 @@ const ITEMS: [Item; 70] = [
     Y,
     W,
     // mode 7, column first: the ninth colour wraps to the first cell
-    Item::Index(0x03),
+    MODE,
     Item::Word(0x0038),
-    Item::Index(0x44),
+    COLUMNS,
     Item::Word(0x0300),
-    Item::Index(0x45),
+    ROWS,
     Item::Word(0x0201),
-    Item::Index(0x22),
+    COLOURS,
     R,
     G,
     R,
@@ -107,13 +121,13 @@ const ITEMS: [Item; 70] = [
     G,
     B,
     // mode 0, left and up: from the bottom right corner
-    Item::Index(0x03),
+    MODE,
     Item::Word(0x0000),
-    Item::Index(0x44),
+    COLUMNS,
     Item::Word(0x0704),
-    Item::Index(0x45),
+    ROWS,
     Item::Word(0x0201),
-    Item::Index(0x22),
+    COLOURS,
     Y,
     C,
     M,
@@ -123,13 +137,13 @@ const ITEMS: [Item; 70] = [
     R,
     K,
     // the bottom row yellow, then from column 4 on cyan under a mask that keeps red
-    Item::Index(0x03),
+    MODE,
     Item::Word(0x0030),
-    Item::Index(0x44),
+    COLUMNS,
     Item::Word(0x0700),
-    Item::Index(0x45),
+    ROWS,
     Item::Word(0x0303),
-    Item::Index(0x22),
+    COLOURS,
     Y,
     Y,
     Y,
@@ -138,11 +152,11 @@ const ITEMS: [Item; 70] = [
     Y,
     Y,
     Y,
-    Item::Index(0x21),
+    PLACE,
     Item::Word(0x0304),
-    Item::Index(0x24),
+    RED_MASK,
     Item::Word(0x003f),
-    Item::Index(0x22),
+    COLOURS,
     C,
     C,
     C,

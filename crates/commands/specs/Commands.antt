@@ -1,5 +1,5 @@
 -- What is sent for each call of a glass, item by item.
-use Rattle.std.specs.Prelude.{ℕ, ◌+◌, ◌*◌, ◌%◌, Bool, cond, List, [], ◌∷◌}
+use Rattle.std.specs.Prelude.{ℕ, ◌+◌, ◌*◌, ◌%◌, Bool, if◌then◌else◌, List, [], ◌∷◌}
 use Rattle.link.specs.declared.Item.{Item}
 use Rattle.link.specs.declared.Item.TheVariants.{Index, Word, Colour}
 use Rattle.pixel.specs.declared.mode.Mode.{Mode}
@@ -23,9 +23,13 @@ frame_items r m k =
     ∷ Index 0x24 ∷ Word (red_of k)
     ∷ Index 0x22 ∷ []
 
+-- one register's index and its word; then index 22h
+abbrev pub setting_items : ℕ → ℕ → List Item
+setting_items i v = Index i ∷ Word v ∷ Index 0x22 ∷ []
+
 -- go: the address, row × 256 + column, in R21h; then index 22h
 abbrev pub go_items : Place → List Item
-go_items at = Index 0x21 ∷ Word (at.y * 256 + at.x) ∷ Index 0x22 ∷ []
+go_items at = setting_items 0x21 (at.y * 256 + at.x)
 
 -- ink: the colour alone
 abbrev pub ink_items : ℕ → List Item
@@ -33,4 +37,4 @@ ink_items c = Colour c ∷ []
 
 -- sleep and wake: bit 1 of R10h; then index 22h
 abbrev pub sleep_items : Bool → List Item
-sleep_items asleep = Index 0x10 ∷ Word (cond asleep 2 0) ∷ Index 0x22 ∷ []
+sleep_items asleep = setting_items 0x10 (if asleep then 2 else 0)

@@ -3,8 +3,10 @@
 
 ghost use Rattle.std.specs.Prelude.{◌≡◌};
 ghost use Rattle.pixel.specs.Addresses.{place_of};
-ghost use Rattle.commands.specs.Commands.{edges, frame_items, go_items, ink_items, sleep_items};
-ghost use Rattle.commands.specs.Sending.{Went};
+ghost use Rattle.registers.specs.Register.{register_number};
+ghost use Rattle.lgdp4522.specs.Wired.{wired};
+ghost use Rattle.host.specs.Sent.{Went};
+ghost use Rattle.commands.specs.Commands.{edges, frame_items, go_items, ink_items, setting_items, sleep_items};
 
 use cells::CellMemory;
 use host::send_all;
@@ -14,6 +16,7 @@ use pixel::address::Address;
 use pixel::colour::{blue, green, red};
 use pixel::mode::Mode;
 use pixel::rect::Rect;
+use registers::register::Register;
 
 // A window word: the high edge in bits 15 to 8, the low one in 7 to 0, each by its lower eight bits.
 fn window_word(low: u16, high: u16) -> u16
@@ -28,18 +31,25 @@ fn framing(rect: Rect, mode: Mode, mask: u32) -> [Item; 11]
 {
     let green_blue = green(mask) * 256 + blue(mask);
     [
-        Item::Index(0x03),
-        Item::Word(mode.number() as u16 * 8),
-        Item::Index(0x44),
+        Register::EntryMode.into(),
+        Item::Word(u16::from(u8::from(mode)) * 8),
+        Register::Columns.into(),
         Item::Word(window_word(rect.left, rect.right)),
-        Item::Index(0x45),
+        Register::Rows.into(),
         Item::Word(window_word(rect.top, rect.bottom)),
-        Item::Index(0x23),
+        Register::GreenBlueMask.into(),
         Item::Word(green_blue as u16),
-        Item::Index(0x24),
+        Register::RedMask.into(),
         Item::Word(red(mask) as u16),
-        Item::Index(0x22), // colours follow the frame
+        Register::Colours.into(), // colours follow the frame
     ]
+}
+
+// One register and its word; colours follow.
+fn setting(register: Register, word: u16) -> [Item; 3]
+    ensures { result ≡ setting_items (register_number register) word }
+{
+    [register.into(), Item::Word(word), Register::Colours.into()]
 }
 
 pub fn send_frame<L: Link, M: CellMemory>(
@@ -48,29 +58,28 @@ pub fn send_frame<L: Link, M: CellMemory>(
     mode: Mode,
     mask: u32,
 )
-    ensures { Went L.Link.format L.Link.held M.CellMemory.cells (frame_items rect mode mask) chip.old chip.new }
+    ensures { Went (frame_items rect mode mask) (wired L.state M.cells chip.old) (wired L.state M.cells chip.new) }
 {
     send_all(chip, &framing(rect, mode, mask));
 }
 
 // The place (R21h), as an address.
 pub fn send_go<L: Link, M: CellMemory>(chip: &mut Lgdp4522<L, M>, address: Address)
-    ensures { Went L.Link.format L.Link.held M.CellMemory.cells (go_items (place_of address)) chip.old chip.new }
+    ensures { Went (go_items (place_of address)) (wired L.state M.cells chip.old) (wired L.state M.cells chip.new) }
 {
-    let place = Item::Word(address.number());
-    send_all(chip, &[Item::Index(0x21), place, Item::Index(0x22)]);
+    send_all(chip, &setting(Register::Address, address.into()));
 }
 
 pub fn send_ink<L: Link, M: CellMemory>(chip: &mut Lgdp4522<L, M>, colour: u32)
-    ensures { Went L.Link.format L.Link.held M.CellMemory.cells (ink_items colour) chip.old chip.new }
+    ensures { Went (ink_items colour) (wired L.state M.cells chip.old) (wired L.state M.cells chip.new) }
 {
     send_all(chip, &[Item::Colour(colour)]);
 }
 
 // Sleep or wake (R10h, bit 1).
 pub fn send_sleep<L: Link, M: CellMemory>(chip: &mut Lgdp4522<L, M>, asleep: bool)
-    ensures { Went L.Link.format L.Link.held M.CellMemory.cells (sleep_items asleep) chip.old chip.new }
+    ensures { Went (sleep_items asleep) (wired L.state M.cells chip.old) (wired L.state M.cells chip.new) }
 {
-    let power = Item::Word(if asleep { 2 } else { 0 });
-    send_all(chip, &[Item::Index(0x10), power, Item::Index(0x22)]);
+    let power = 2 * u16::from(asleep);
+    send_all(chip, &setting(Register::Power, power));
 }

@@ -1,20 +1,16 @@
 // The controller on any link as a glass: each accepted call goes over the link as beats, and a refused one sends nothing.
 #![tactic(auto)]
 
-ghost use Rattle.std.specs.Prelude.{◌≡◌, true, false, length, if◌then◌else◌, Some, None};
-ghost use Rattle.pixel.specs.Addresses.{on_screen};
+ghost use Rattle.std.specs.Prelude.{◌≡◌, true, false, length};
 ghost use Rattle.pixel.specs.Modes.{mode_of};
-ghost use Rattle.cells.specs.Sizes.{fits_memory};
+ghost use Rattle.cells.specs.Sizes.{SparedUnfit, fitted_size};
+ghost use Rattle.registers.specs.Chip.{chip_of};
 ghost use Rattle.lgdp4522.specs.Wired.{fitted, wired};
-ghost use Rattle.glass.specs.Faults.{answered};
-ghost use Rattle.glass.specs.Calls.{FrameTaken, GoTaken, InkTaken, Untouched, frame_number, framed, go_number, gone, ink_number, inked, left_by, slept};
-ghost use Rattle.glass.specs.Memories.{fitted_size};
+ghost use Rattle.glass.specs.Calls.{Called, FrameTaken, GoTaken, InkTaken, frame_number, framed, go_number, gone, ink_number, inked, slept};
 ghost use Rattle.glass.specs.Panels.{Same, new_panel};
 ghost use Rattle.commands.specs.Commands.{frame_items, go_items, ink_items, sleep_items};
-ghost use Rattle.commands.specs.Sending.{sent};
-ghost use Rattle.driver.specs.Driving.{DriverReached, driver_panel, sent_by};
-ghost use Rattle.registers.specs.Chip.{chip_of};
 ghost use Rattle.commands.proofs.Done.{possible_of};
+ghost use Rattle.driver.specs.Driving.{DriverReached, Drove, driver_panel, sent_by};
 
 use cells::CellMemory;
 use commands::{send_frame, send_go, send_ink, send_sleep};
@@ -22,7 +18,6 @@ use glass::{Glass, GlassFault, checks};
 use lgdp4522::Lgdp4522;
 use link::Link;
 use pixel::address::Address;
-use pixel::colour::FULL;
 use pixel::mode::Mode;
 use pixel::rect::{Place, Rect, Size};
 
@@ -37,39 +32,22 @@ pub struct Driver<L: Link, M: CellMemory> {
 impl<L: Link, M: CellMemory> Driver<L, M> {
     // A controller at power-on, every cell 0. Where `check` refuses size and memory it is one of 0 × 0, and the memory is untouched.
     pub fn fit(link: L, memory: M, size: Size) -> Self
-        ensures reached { DriverReached M.CellMemory.cells result }
-        ensures new { Same (driver_panel L.Link.format M.CellMemory.cells result) (new_panel (fitted_size size (length (M.CellMemory.cells memory))) (L.Link.format link).carried) }
-        ensures format { L.Link.format result.chip.link ≡ L.Link.format link }
-        ensures chip { wired L.Link.held M.CellMemory.cells result.chip ≡ fitted (fits_memory size (length (M.CellMemory.cells memory))) size (M.CellMemory.cells memory) }
-        ensures untouched { fits_memory size (length (M.CellMemory.cells memory)) ≡ false → result.chip.memory ≡ memory }
+        ensures reached { DriverReached M.cells result }
+        ensures new { Same (driver_panel L.state M.cells result) (new_panel (fitted_size size (length (M.cells memory))) (L.state link).format.carried) }
+        ensures chip { wired L.state M.cells result.chip ≡ fitted (L.state link).format size (M.cells memory) }
+        ensures spared { SparedUnfit M.cells size memory result.chip.memory }
     {
-        Self::unframed(Lgdp4522::fit(link, memory, size))
+        Driver {
+            chip: Lgdp4522::fit(link, memory, size),
+            window: None,
+        }
     }
 
-    // A controller on which no frame was set.
-    fn unframed(chip: Lgdp4522<L, M>) -> Self
-        ensures chip { result.chip ≡ chip }
-        ensures window { result.window ≡ None }
-    {
-        Driver { chip, window: None }
-    }
-
-    // What memory has at a place: something exactly on the glass.
-    fn cell(&self, place: Place) -> Option<u32>
-        requires { DriverReached M.CellMemory.cells self.now }
-        ensures { result ≡ (if on_screen self.now.chip.registers.size place then Some ((driver_panel L.Link.format M.CellMemory.cells self.now).cell place) else None) }
-    {
-        self.chip.cell(place)
-    }
-
-    // A frame that is accepted.
+    // A frame that is accepted, its mode by the number, of which the panel that it makes speaks too.
     fn aim(&mut self, rect: Rect, mode: u8, mask: u32)
-        requires reached { DriverReached M.CellMemory.cells self.old }
+        requires reached { DriverReached M.cells self.old }
         requires taken { FrameTaken self.old.chip.registers.asleep self.old.chip.registers.size rect mode mask }
-        ensures stays { DriverReached M.CellMemory.cells self.new }
-        ensures after { Same (driver_panel L.Link.format M.CellMemory.cells self.new) (framed rect mode mask (driver_panel L.Link.format M.CellMemory.cells self.old)) }
-        ensures format { L.Link.format self.new.chip.link ≡ L.Link.format self.old.chip.link }
-        ensures beats { wired L.Link.held M.CellMemory.cells self.new.chip ≡ sent (L.Link.format self.old.chip.link) (frame_items rect (mode_of mode) mask) (wired L.Link.held M.CellMemory.cells self.old.chip) }
+        ensures { Drove L.state M.cells (frame_items rect (mode_of mode) mask) (framed rect mode mask) self.old self.new }
     {
         send_frame(&mut self.chip, rect, Mode::from_number(mode), mask);
         self.window = Some(rect);
@@ -77,12 +55,9 @@ impl<L: Link, M: CellMemory> Driver<L, M> {
 
     // A place that is accepted, and the window that it lies in.
     fn point(&mut self, window: Rect, place: Place)
-        requires reached { DriverReached M.CellMemory.cells self.old }
+        requires reached { DriverReached M.cells self.old }
         requires taken { GoTaken self.old.chip.registers.asleep self.old.window place window }
-        ensures stays { DriverReached M.CellMemory.cells self.new }
-        ensures after { Same (driver_panel L.Link.format M.CellMemory.cells self.new) (gone place (driver_panel L.Link.format M.CellMemory.cells self.old)) }
-        ensures format { L.Link.format self.new.chip.link ≡ L.Link.format self.old.chip.link }
-        ensures beats { wired L.Link.held M.CellMemory.cells self.new.chip ≡ sent (L.Link.format self.old.chip.link) (go_items place) (wired L.Link.held M.CellMemory.cells self.old.chip) }
+        ensures { Drove L.state M.cells (go_items place) (gone place) self.old self.new }
     {
         // every place of a window has an address
         send_go(&mut self.chip, Address::of(place).unwrap());
@@ -90,23 +65,17 @@ impl<L: Link, M: CellMemory> Driver<L, M> {
 
     // A colour that is accepted, and the window that it goes to.
     fn land(&mut self, window: Rect, colour: u32)
-        requires reached { DriverReached M.CellMemory.cells self.old }
+        requires reached { DriverReached M.cells self.old }
         requires taken { InkTaken self.old.chip.registers.asleep self.old.window colour window }
-        ensures stays { DriverReached M.CellMemory.cells self.new }
-        ensures after { Same (driver_panel L.Link.format M.CellMemory.cells self.new) (inked colour (driver_panel L.Link.format M.CellMemory.cells self.old)) }
-        ensures format { L.Link.format self.new.chip.link ≡ L.Link.format self.old.chip.link }
-        ensures beats { wired L.Link.held M.CellMemory.cells self.new.chip ≡ sent (L.Link.format self.old.chip.link) (ink_items colour) (wired L.Link.held M.CellMemory.cells self.old.chip) }
+        ensures { Drove L.state M.cells (ink_items colour) (inked colour) self.old self.new }
     {
         send_ink(&mut self.chip, colour);
     }
 
     // Sleep or wake.
     fn rest(&mut self, asleep: bool)
-        requires reached { DriverReached M.CellMemory.cells self.old }
-        ensures stays { DriverReached M.CellMemory.cells self.new }
-        ensures after { Same (driver_panel L.Link.format M.CellMemory.cells self.new) (slept asleep (driver_panel L.Link.format M.CellMemory.cells self.old)) }
-        ensures format { L.Link.format self.new.chip.link ≡ L.Link.format self.old.chip.link }
-        ensures beats { wired L.Link.held M.CellMemory.cells self.new.chip ≡ sent (L.Link.format self.old.chip.link) (sleep_items asleep) (wired L.Link.held M.CellMemory.cells self.old.chip) }
+        requires { DriverReached M.cells self.old }
+        ensures { Drove L.state M.cells (sleep_items asleep) (slept asleep) self.old self.new }
     {
         send_sleep(&mut self.chip, asleep);
     }
@@ -114,20 +83,16 @@ impl<L: Link, M: CellMemory> Driver<L, M> {
 
 // Beside what every glass promises, each call that sends says which beats it leaves its controller with.
 impl<L: Link, M: CellMemory> Glass for Driver<L, M> {
-    ghost means = { λ s. driver_panel L.Link.format M.CellMemory.cells s };
+    ghost means = { λ s. driver_panel L.state M.cells s };
 
-    ghost reached = { λ s. DriverReached M.CellMemory.cells s };
+    ghost reached = { λ s. DriverReached M.cells s };
 
-    ghost possible = { λ s z. possible_of s.window (L.Link.format s.chip.link).carried (chip_of (M.CellMemory.cells s.chip.memory) s.chip.registers) (L.Link.lawful s.chip.link).carried_fits z };
+    ghost possible = { λ s z. possible_of s.window (L.state s.chip.link).format.carried (chip_of (M.cells s.chip.memory) s.chip.registers) (L.lawful s.chip.link).carried_fits z };
 
     fn frame(&mut self, rect: Rect, mode: u8, mask: u32) -> Result<(), GlassFault>
-        requires { DriverReached M.CellMemory.cells self.old }
-        ensures stays { DriverReached M.CellMemory.cells self.new }
-        ensures answer { answered result ≡ frame_number rect mode mask (driver_panel L.Link.format M.CellMemory.cells self.old) }
-        ensures after { Same (driver_panel L.Link.format M.CellMemory.cells self.new) (left_by result (framed rect mode mask (driver_panel L.Link.format M.CellMemory.cells self.old)) (driver_panel L.Link.format M.CellMemory.cells self.old)) }
-        ensures refused { Untouched result self.new self.old }
-        ensures format { L.Link.format self.new.chip.link ≡ L.Link.format self.old.chip.link }
-        ensures beats { wired L.Link.held M.CellMemory.cells self.new.chip ≡ sent_by result (L.Link.format self.old.chip.link) (frame_items rect (mode_of mode) mask) (wired L.Link.held M.CellMemory.cells self.old.chip) }
+        requires { DriverReached M.cells self.old }
+        ensures call { Called (DriverReached M.cells) (driver_panel L.state M.cells) (frame_number rect mode mask) (framed rect mode mask) result self.old self.new }
+        ensures beats { wired L.state M.cells self.new.chip ≡ sent_by result (frame_items rect (mode_of mode) mask) (wired L.state M.cells self.old.chip) }
     {
         checks::frame(self.chip.asleep(), self.chip.size(), rect, mode, mask)?;
         self.aim(rect, mode, mask);
@@ -135,13 +100,9 @@ impl<L: Link, M: CellMemory> Glass for Driver<L, M> {
     }
 
     fn go(&mut self, place: Place) -> Result<(), GlassFault>
-        requires { DriverReached M.CellMemory.cells self.old }
-        ensures stays { DriverReached M.CellMemory.cells self.new }
-        ensures answer { answered result ≡ go_number place (driver_panel L.Link.format M.CellMemory.cells self.old) }
-        ensures after { Same (driver_panel L.Link.format M.CellMemory.cells self.new) (left_by result (gone place (driver_panel L.Link.format M.CellMemory.cells self.old)) (driver_panel L.Link.format M.CellMemory.cells self.old)) }
-        ensures refused { Untouched result self.new self.old }
-        ensures format { L.Link.format self.new.chip.link ≡ L.Link.format self.old.chip.link }
-        ensures beats { wired L.Link.held M.CellMemory.cells self.new.chip ≡ sent_by result (L.Link.format self.old.chip.link) (go_items place) (wired L.Link.held M.CellMemory.cells self.old.chip) }
+        requires { DriverReached M.cells self.old }
+        ensures call { Called (DriverReached M.cells) (driver_panel L.state M.cells) (go_number place) (gone place) result self.old self.new }
+        ensures beats { wired L.state M.cells self.new.chip ≡ sent_by result (go_items place) (wired L.state M.cells self.old.chip) }
     {
         let window = checks::go(self.chip.asleep(), self.window, place)?;
         self.point(window, place);
@@ -149,13 +110,9 @@ impl<L: Link, M: CellMemory> Glass for Driver<L, M> {
     }
 
     fn ink(&mut self, colour: u32) -> Result<(), GlassFault>
-        requires { DriverReached M.CellMemory.cells self.old }
-        ensures stays { DriverReached M.CellMemory.cells self.new }
-        ensures answer { answered result ≡ ink_number colour (driver_panel L.Link.format M.CellMemory.cells self.old) }
-        ensures after { Same (driver_panel L.Link.format M.CellMemory.cells self.new) (left_by result (inked colour (driver_panel L.Link.format M.CellMemory.cells self.old)) (driver_panel L.Link.format M.CellMemory.cells self.old)) }
-        ensures refused { Untouched result self.new self.old }
-        ensures format { L.Link.format self.new.chip.link ≡ L.Link.format self.old.chip.link }
-        ensures beats { wired L.Link.held M.CellMemory.cells self.new.chip ≡ sent_by result (L.Link.format self.old.chip.link) (ink_items colour) (wired L.Link.held M.CellMemory.cells self.old.chip) }
+        requires { DriverReached M.cells self.old }
+        ensures call { Called (DriverReached M.cells) (driver_panel L.state M.cells) (ink_number colour) (inked colour) result self.old self.new }
+        ensures beats { wired L.state M.cells self.new.chip ≡ sent_by result (ink_items colour) (wired L.state M.cells self.old.chip) }
     {
         let window = checks::ink(self.chip.asleep(), self.window, colour)?;
         self.land(window, colour);
@@ -163,16 +120,11 @@ impl<L: Link, M: CellMemory> Glass for Driver<L, M> {
     }
 
     fn look(&self, place: Place) -> Result<u32, GlassFault> {
-        match self.cell(place) {
-            Some(cell) => Ok(cell),
-            None => Err(GlassFault::Unseen),
-        }
+        self.chip.cell(place).ok_or(GlassFault::Unseen)
     }
 
     fn shade(&self, colour: u32) -> Result<u32, GlassFault> {
-        if colour > FULL {
-            return Err(GlassFault::Colour);
-        }
+        let colour = checks::narrow(colour)?;
         Ok(self.chip.link().carry(colour))
     }
 
@@ -185,21 +137,15 @@ impl<L: Link, M: CellMemory> Glass for Driver<L, M> {
     }
 
     fn sleep(&mut self)
-        requires { DriverReached M.CellMemory.cells self.old }
-        ensures stays { DriverReached M.CellMemory.cells self.new }
-        ensures after { Same (driver_panel L.Link.format M.CellMemory.cells self.new) (slept true (driver_panel L.Link.format M.CellMemory.cells self.old)) }
-        ensures format { L.Link.format self.new.chip.link ≡ L.Link.format self.old.chip.link }
-        ensures beats { wired L.Link.held M.CellMemory.cells self.new.chip ≡ sent (L.Link.format self.old.chip.link) (sleep_items true) (wired L.Link.held M.CellMemory.cells self.old.chip) }
+        requires { DriverReached M.cells self.old }
+        ensures { Drove L.state M.cells (sleep_items true) (slept true) self.old self.new }
     {
         self.rest(true);
     }
 
     fn wake(&mut self)
-        requires { DriverReached M.CellMemory.cells self.old }
-        ensures stays { DriverReached M.CellMemory.cells self.new }
-        ensures after { Same (driver_panel L.Link.format M.CellMemory.cells self.new) (slept false (driver_panel L.Link.format M.CellMemory.cells self.old)) }
-        ensures format { L.Link.format self.new.chip.link ≡ L.Link.format self.old.chip.link }
-        ensures beats { wired L.Link.held M.CellMemory.cells self.new.chip ≡ sent (L.Link.format self.old.chip.link) (sleep_items false) (wired L.Link.held M.CellMemory.cells self.old.chip) }
+        requires { DriverReached M.cells self.old }
+        ensures { Drove L.state M.cells (sleep_items false) (slept false) self.old self.new }
     {
         self.rest(false);
     }

@@ -3,7 +3,8 @@ use Rattle.std.specs.Prelude.{ℕ, ◌+◌, ◌*◌, ◌/◌, ◌%◌, Bool, Lis
 use Rattle.link.specs.declared.Item.{Item}
 use Rattle.link.specs.declared.Item.TheVariants.{Index, Word, Colour}
 use Rattle.link.specs.Items.{index_word, item_of, lower, upper, word_of}
-use Rattle.link.specs.Formats.{Format, Taken, holds_half}
+use Rattle.link.specs.declared.Taken.{Taken}
+use Rattle.link.specs.Formats.{Format, holds_half}
 
 -- a colour arrives as it was sent, by its lower 18 bits
 abbrev pub whole : ℕ → ℕ
@@ -17,20 +18,22 @@ spread v = upper v * 1024 + lower v * 2
 abbrev pub gathered : ℕ → ℕ
 gathered b = word_of (b / 1024 % 256) (b / 2 % 256)
 
-abbrev pub beats_18 : Item → List ℕ
-beats_18 (Index i) = spread (index_word i) ∷ []
-beats_18 (Word v) = spread v ∷ []
-beats_18 (Colour c) = whole c ∷ []
+-- the 18 bits that an item travels as, and what they arrive as
+abbrev pub full_beat : Item → ℕ
+full_beat (Index i) = spread (index_word i)
+full_beat (Word v) = spread v
+full_beat (Colour c) = whole c
+
+abbrev pub full_item : Bool → Bool → ℕ → Item
+full_item high is_22h b = item_of high is_22h (gathered b) b
 
 -- one beat is an item, and nothing is ever held
 abbrev pub format_18 : Format ℕ
 format_18 = record {
-  beats = beats_18;
-  word_beats = 1;
-  colour_beats = 1;
+  beats = λ i. full_beat i ∷ [];
   wide = λ b. nat_le 262144 b;
   holds = λ held t. [];
-  gives = λ is_22h held t. Some (item_of t.rs is_22h (gathered t.beat) t.beat);
+  gives = λ is_22h held t. Some (full_item t.rs is_22h t.beat);
   carried = whole;
 }
 
@@ -52,8 +55,6 @@ gives_9 is_22h (u ∷ _) t = Some (item_of u.rs is_22h (word_of (byte_9 u.beat) 
 abbrev pub format_9 : Format ℕ
 format_9 = record {
   beats = beats_9;
-  word_beats = 2;
-  colour_beats = 2;
   wide = λ b. nat_le 512 b;
   holds = holds_half;
   gives = gives_9;

@@ -1,44 +1,38 @@
-// The 18-bit link: one beat. A word's bytes travel in bits 17 to 10 and 8 to 1; a colour is the beat.
+// The 18-bit link: one beat.
 ghost use Rattle.std.specs.Prelude.{[]};
+ghost use Rattle.link.specs.Formats.{state_of};
 ghost use Rattle.full_links.specs.FullFormats.{format_18};
 ghost use Rattle.std.proofs.Common.{rules};
 
+use crate::{beat_of, carried, item_from};
 use link::{Item, Link, LinkFault};
 use pixel::colour::FULL;
 
+// A link of its own beside the 16-bit one, since each link names its beat and its counts: the two share no more than shape.
 #[derive(Drop)]
 pub struct EighteenBit;
 
 impl Link for EighteenBit {
     type Beat = u32;
 
+    ghost WORD_BEATS = { 1 };
+
     const WORD_BEATS: usize = 1;
+
+    ghost COLOUR_BEATS = { 1 };
 
     const COLOUR_BEATS: usize = 1;
 
-    ghost format = { λ _. format_18 };
-
-    ghost held = { λ _. [] };
+    ghost state = { λ _. state_of format_18 [] };
 
     ghost lawful = { Prim.search rules };
 
-    fn count(&self, item: Item) -> usize {
-        item.count(Self::WORD_BEATS, Self::COLOUR_BEATS)
-    }
-
     fn beat(&self, item: Item, n: usize) -> Option<u32> {
-        if n > 0 {
-            return None;
-        }
-        match item {
-            Item::Index(i) => Some(i as u32 % 128 * 2),
-            Item::Word(w) => Some(w as u32 / 256 * 1024 + w as u32 % 256 * 2),
-            Item::Colour(c) => Some(c % 262144),
-        }
+        [beat_of(item)].get(n).copied()
     }
 
     fn carry(&self, colour: u32) -> u32 {
-        colour % 262144
+        carried(colour)
     }
 
     fn select(&mut self) {}
@@ -47,7 +41,6 @@ impl Link for EighteenBit {
         if beat > FULL {
             return Err(LinkFault::Wide);
         }
-        let word = (beat / 1024 * 256 + beat / 2 % 256) as u16;
-        Ok(Some(Item::arriving(rs, index, word, beat)))
+        Ok(Some(item_from(rs, index, beat)))
     }
 }

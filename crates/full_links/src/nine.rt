@@ -1,14 +1,17 @@
-// The 9-bit link: two beats, upper first. A word's byte travels in bits 8 to 1; a colour is its upper and lower nine bits.
+// The 9-bit link: two beats, upper first, the nine bits of each half.
 ghost use Rattle.std.specs.Prelude.{◌≡◌, None};
-ghost use Rattle.link.specs.Formats.{held_half};
+ghost use Rattle.link.specs.Formats.{held_half, state_of};
 ghost use Rattle.full_links.specs.FullFormats.{format_9};
 ghost use Rattle.std.proofs.Common.{rules};
 
-use link::{Half, Item, Link, LinkFault};
+use crate::{beat_of, carried, item_from};
+use link::{Item, Link, LinkFault, Taken};
 
+// A link of its own beside the 8-bit one, since each link names its beat and its counts: what both do with a first beat is
+// one `take` of an option.
 #[derive(Drop)]
 pub struct NineBit {
-    upper: Option<Half<u16>>,
+    upper: Option<Taken<u16>>,
 }
 
 impl NineBit {
@@ -22,35 +25,26 @@ impl NineBit {
 impl Link for NineBit {
     type Beat = u16;
 
+    ghost WORD_BEATS = { 2 };
+
     const WORD_BEATS: usize = 2;
+
+    ghost COLOUR_BEATS = { 2 };
 
     const COLOUR_BEATS: usize = 2;
 
-    ghost format = { λ _. format_9 };
-
-    ghost held = { λ s. held_half s.upper };
+    ghost state = { λ s. state_of format_9 (held_half s.upper) };
 
     ghost lawful = { Prim.search rules };
 
-    fn count(&self, item: Item) -> usize {
-        item.count(Self::WORD_BEATS, Self::COLOUR_BEATS)
-    }
-
     fn beat(&self, item: Item, n: usize) -> Option<u16> {
-        let (upper, lower) = match item {
-            Item::Index(i) => (0, i as u16 % 128 * 2),
-            Item::Word(w) => (w / 256 * 2, w % 256 * 2),
-            Item::Colour(c) => ((c / 512 % 512) as u16, (c % 512) as u16),
-        };
-        match n {
-            0 => Some(upper),
-            1 => Some(lower),
-            _ => None,
-        }
+        let beat = beat_of(item);
+        let (upper, lower) = ((beat / 512) as u16, (beat % 512) as u16);
+        [upper, lower].get(n).copied()
     }
 
     fn carry(&self, colour: u32) -> u32 {
-        colour % 262144
+        carried(colour)
     }
 
     fn select(&mut self) {
@@ -61,16 +55,11 @@ impl Link for NineBit {
         if beat >= 512 {
             return Err(LinkFault::Wide);
         }
-        match self.upper.take() {
-            None => {
-                self.upper = Some(Half { rs, beat });
-                Ok(None)
-            }
-            Some(upper) => {
-                let word = upper.beat / 2 % 256 * 256 + beat / 2;
-                let colour = upper.beat as u32 % 512 * 512 + beat as u32;
-                Ok(Some(Item::arriving(upper.rs, index, word, colour)))
-            }
-        }
+        let Some(upper) = self.upper.take() else {
+            self.upper = Some(Taken { rs, beat });
+            return Ok(None);
+        };
+        let whole = upper.beat as u32 % 512 * 512 + beat as u32;
+        Ok(Some(item_from(upper.rs, index, whole)))
     }
 }

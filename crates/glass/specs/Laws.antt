@@ -1,5 +1,5 @@
 -- What holds of a glass's calls, whatever glass it is.
-use Rattle.std.specs.Prelude.{◌≡◌, ℕ, ◌<◌, Bool, false, cond, None, ◌==◌}
+use Rattle.std.specs.Prelude.{◌≡◌, ℕ, ◌<◌, Bool, false, if◌then◌else◌, None, ◌==◌}
 use Rattle.pixel.specs.declared.rect.Place.{Place}
 use Rattle.pixel.specs.declared.rect.Rect.{Rect}
 use Rattle.pixel.specs.Colours.{bit}
@@ -29,7 +29,7 @@ pub record Laws : Type 0 where
   pub sleep_keeps : (sleeps : Bool) (p : Panel) → Possible p → Possible (slept sleeps p)
   -- ink changes the cell at the place alone, and there the bits whose mask bit is 0
   pub ink_elsewhere : (c : ℕ) (p : Panel) (at : Place) → same_place p.place at ≡ false → (inked c p).cell at ≡ p.cell at
-  pub ink_there : (c k : ℕ) (p : Panel) → k < 18 → bit k ((inked c p).cell p.place) ≡ cond (bit k p.mask == 1) (bit k (p.cell p.place)) (bit k (p.carried c))
+  pub ink_there : (c k : ℕ) (p : Panel) → k < 18 → bit k ((inked c p).cell p.place) ≡ (if bit k p.mask == 1 then bit k (p.cell p.place) else bit k (p.carried c))
   -- without a window every place and every colour is refused
   pub nowhere : (at : Place) (p : Panel) → p.asleep ≡ false → p.window ≡ None → go_number at p ≡ 4
   pub no_ink : (c : ℕ) (p : Panel) → p.asleep ≡ false → p.window ≡ None → ink_number c p ≡ 3

@@ -4,57 +4,55 @@
 ghost use Rattle.std.specs.Prelude.{◌≡◌, true, false, IfOk};
 ghost use Rattle.glass.specs.Faults.{answered, fault_layer, fault_number};
 ghost use Rattle.glass.specs.Panels.{Panel, Possible, Same};
-ghost use Rattle.glass.specs.Calls.{Untouched, frame_number, framed, go_number, gone, ink_number, inked, left_by, look_number, shade_number, slept};
+ghost use Rattle.glass.specs.Calls.{Called, frame_number, framed, go_number, gone, ink_number, inked, look_number, shade_number, slept};
 ghost use Rattle.glass.specs.Laws.{Laws};
 
+pub mod checks;
+
+use pixel::mode::UnknownMode;
 use pixel::rect::{Place, Rect, Size};
 use refusal::Layer;
 
 // Why a glass refuses a call.
-#[derive(Clone, Copy)]
+#[derive(Clone, Copy, Debug, PartialEq, Eq, Hash)]
 pub enum GlassFault {
-    Asleep,
+    Asleep = 2,
     // a rectangle that is not inside or out of order, or ink without a window
-    Window,
+    Window = 3,
     // a place outside the window
-    Outside,
+    Outside = 4,
     // a colour or a mask above 3FFFFh
-    Colour,
+    Colour = 5,
     // a look outside the glass
-    Unseen,
+    Unseen = 6,
     // a mode above 7
-    UnknownMode,
+    UnknownMode = 15,
 }
 
 impl GlassFault {
+    // A refusal is told by its number and its layer: so the rule wants it.
     pub fn number(self) -> u8
         ensures { result ≡ fault_number self }
     {
-        match self {
-            GlassFault::Asleep => 2,
-            GlassFault::Window => 3,
-            GlassFault::Outside => 4,
-            GlassFault::Colour => 5,
-            GlassFault::Unseen => 6,
-            GlassFault::UnknownMode => 15,
-        }
+        self as u8
     }
 
     pub fn layer(self) -> Layer
         ensures { result ≡ fault_layer self }
     {
-        match self {
-            GlassFault::Asleep
-            | GlassFault::Window
-            | GlassFault::Outside
-            | GlassFault::Colour
-            | GlassFault::Unseen
-            | GlassFault::UnknownMode => Layer::Glass,
-        }
+        Layer::Glass
     }
 }
 
-pub mod checks;
+impl From<UnknownMode> for GlassFault {
+    ghost use Rattle.glass.specs.declared.GlassFault.TheVariants.{UnknownMode};
+
+    ghost from_gives = { λ _ fault. fault ≡ UnknownMode };
+
+    fn from(_: UnknownMode) -> GlassFault {
+        GlassFault::UnknownMode
+    }
+}
 
 // What holds of the definitions that the calls' contracts cite. There is nothing to run: the check asks for the proof.
 pub fn laws()
@@ -68,32 +66,25 @@ pub trait Glass {
     // colour is carried as
     ghost means: { Self → Panel };
 
-    // the states that its making and its calls reach
+    // the states that its making and its calls reach. Each call requires and keeps them, as the project's rule has it: a layer
+    // may then rely on what it set below
     ghost reached: { Self → Type 0 };
 
-    // Sets window, mode and mask, and the place to the start corner.
+    // Sets window, mode and mask, and the place to the start corner. The mode comes as a number, as the rule has it: one above
+    // 7 is refused here, after the rectangle. So the three that are asked and the three that are set are not one struct.
     fn frame(&mut self, rect: Rect, mode: u8, mask: u32) -> Result<(), GlassFault>
         requires { reached self.old }
-        ensures stays { reached self.new }
-        ensures answer { answered result ≡ frame_number rect mode mask (means self.old) }
-        ensures after { Same (means self.new) (left_by result (framed rect mode mask (means self.old)) (means self.old)) }
-        ensures refused { Untouched result self.new self.old };
+        ensures { Called reached means (frame_number rect mode mask) (framed rect mode mask) result self.old self.new };
 
     // Sets the place.
     fn go(&mut self, place: Place) -> Result<(), GlassFault>
         requires { reached self.old }
-        ensures stays { reached self.new }
-        ensures answer { answered result ≡ go_number place (means self.old) }
-        ensures after { Same (means self.new) (left_by result (gone place (means self.old)) (means self.old)) }
-        ensures refused { Untouched result self.new self.old };
+        ensures { Called reached means (go_number place) (gone place) result self.old self.new };
 
     // The colour, as carried, meets the cell at the place under the mask; the place steps.
     fn ink(&mut self, colour: u32) -> Result<(), GlassFault>
         requires { reached self.old }
-        ensures stays { reached self.new }
-        ensures answer { answered result ≡ ink_number colour (means self.old) }
-        ensures after { Same (means self.new) (left_by result (inked colour (means self.old)) (means self.old)) }
-        ensures refused { Untouched result self.new self.old };
+        ensures { Called reached means (ink_number colour) (inked colour) result self.old self.new };
 
     // The cell at a place, also asleep.
     fn look(&self, place: Place) -> Result<u32, GlassFault>

@@ -2,6 +2,7 @@
 // prints the pictures, whether they agree as carried, and whether the six glasses answer alike.
 #![tactic(auto)]
 
+use calls::run;
 use cells::Lent;
 use driver::Driver;
 use full_links::eighteen::EighteenBit;
@@ -15,8 +16,8 @@ use short_links::eight::EightBit;
 use short_links::serial::{Serial, SerialId};
 use short_links::sixteen::SixteenBit;
 use std::alloc::{AllocError, Global};
-use std::io;
-use std::io::Write;
+use std::fmt::Write as _;
+use std::{array, fmt, io};
 
 mod card;
 
@@ -27,34 +28,31 @@ const SIZE: Size = Size {
 
 // The cells of a glass of 8 × 4, row by row; 0 for one that is not there.
 fn cells_of<G: Glass>(glass: &G) -> [u32; 32]
-    requires { G.Glass.reached glass.now }
+    requires { G.reached glass.now }
 {
-    let mut cells = [0; 32];
-    for i in 0..32 {
-        let place = Place { x: i % 8, y: i / 8 };
-        cells[i as usize] = glass.look(place).unwrap_or(0);
-    }
-    cells
+    array::from_fn(|i| {
+        let place = Place {
+            x: (i % 8) as u16,
+            y: (i / 8) as u16,
+        };
+        glass.look(place).unwrap_or(0)
+    })
 }
 
 // Whether each cell of a glass shows what the glass carries another's cell as.
 fn agrees<G: Glass>(glass: &G, others: &[u32; 32]) -> bool
-    requires { G.Glass.reached glass.now }
+    requires { G.reached glass.now }
 {
-    let cells = cells_of(glass);
-    for (own, other) in cells.iter().zip(others.iter()) {
-        match glass.shade(*other) {
-            Ok(shade) if shade == *own => {}
-            _ => return false,
-        }
-    }
-    true
+    cells_of(glass)
+        .iter()
+        .zip(others)
+        .all(|(own, other)| glass.shade(*other) == Ok(*own))
 }
 
 // What one glass makes of the chain and of the card.
-#[derive(Drop)]
+#[derive(Clone, Copy, Debug, PartialEq, Eq, Hash)]
 struct Seen {
-    // whether every call was answered by the number that stands beside it
+    // whether every call was answered as it should be
     told: bool,
     chain: [u32; 32],
     card: [u32; 32],
@@ -64,12 +62,12 @@ struct Seen {
 
 // Gives a new glass of 8 × 4 the chain, and then the card, which covers every cell.
 fn visit<G: Glass>(glass: &mut G) -> Seen
-    requires { G.Glass.reached glass.old }
-    ensures { G.Glass.reached glass.new }
+    requires { G.reached glass.old }
+    ensures { G.reached glass.new }
 {
-    let answered = card::chain(glass);
+    let answered = run(glass, card::CHAIN);
     let chain = cells_of(glass);
-    let drawn = card::card(glass);
+    let drawn = run(glass, card::CARD);
     Seen {
         told: answered && drawn,
         chain,
@@ -78,34 +76,33 @@ fn visit<G: Glass>(glass: &mut G) -> Seen
     }
 }
 
-// Adds a line and the four rows of a picture to a text.
-fn add(text: &mut Vec<u8>, heap: Global, head: &str, cells: &[u32; 32]) -> Result<(), AllocError> {
-    text.extend_from_slice(head.as_bytes())?;
-    let letters = rows(heap, cells, 8)?;
-    text.extend_from_slice(letters.as_slice())
+// Adds the four rows of a picture to a text.
+fn add(text: &mut String, cells: &[u32; 32]) -> Result<(), AllocError> {
+    let letters = rows(*text.allocator(), cells, 8)?;
+    text.push_str(letters.as_str())
 }
 
 // Adds a glass's name, what white is there, and its card.
-fn add_card(text: &mut Vec<u8>, heap: Global, name: &str, seen: &Seen) -> Result<(), AllocError> {
+fn add_card(text: &mut String, name: &str, seen: &Seen) -> Result<(), AllocError> {
     let white = seen.white;
-    let head = format!(in heap; "{name}, white is {white:05X}h\n")?;
-    add(text, heap, head.as_str(), &seen.card)
+    writeln!(text, "{name}, white is {white:05X}h")?;
+    add(text, &seen.card)
 }
 
-fn on_plain(text: &mut Vec<u8>, heap: Global) -> Result<Seen, AllocError> {
+fn on_plain(text: &mut String) -> Result<Seen, AllocError> {
     let mut memory = [0; 32];
     let mut glass = PlainGlass::fit(Lent::new(&mut memory), SIZE);
     let seen = visit(&mut glass);
-    add(text, heap, "plain glass, after the chain\n", &seen.chain)?;
-    add_card(text, heap, "plain glass", &seen)?;
+    text.push_str("plain glass, after the chain\n")?;
+    add(text, &seen.chain)?;
+    add_card(text, "plain glass", &seen)?;
     Ok(seen)
 }
 
 // Whether a glass on a link agrees with the plain one: in the chain's picture, whose colours every link carries unchanged,
 // cell by cell, and in the card as carried.
 fn on_link<L: Link + Drop>(
-    text: &mut Vec<u8>,
-    heap: Global,
+    text: &mut String,
     name: &str,
     link: L,
     plain: &Seen,
@@ -113,7 +110,7 @@ fn on_link<L: Link + Drop>(
     let mut memory = [0; 32];
     let mut glass = Driver::fit(link, Lent::new(&mut memory), SIZE);
     let seen = visit(&mut glass);
-    add_card(text, heap, name, &seen)?;
+    add_card(text, name, &seen)?;
     Ok(Verdict {
         pictures: seen.chain == plain.chain && agrees(&glass, &plain.card),
         answers: seen.told,
@@ -121,59 +118,48 @@ fn on_link<L: Link + Drop>(
 }
 
 // Whether the pictures agree, and whether every call was answered as it should be.
-#[derive(Clone, Copy)]
+#[derive(Clone, Copy, Debug, PartialEq, Eq, Hash)]
 struct Verdict {
     pictures: bool,
     answers: bool,
 }
 
-impl Verdict {
-    fn and(self, other: Verdict) -> Verdict {
-        Verdict {
-            pictures: self.pictures && other.pictures,
-            answers: self.answers && other.answers,
-        }
+impl fmt::Display for Verdict {
+    fn fmt<W: fmt::Write>(&self, f: &mut fmt::Formatter<W>) -> fmt::Result {
+        let pictures = if self.pictures {
+            "the pictures agree as carried"
+        } else {
+            "the pictures do not agree"
+        };
+        let answers = if self.answers {
+            "the six glasses answer alike"
+        } else {
+            "the glasses do not answer alike"
+        };
+        write!(f, "{pictures}, and {answers}")
     }
 }
 
-fn closing(verdict: Verdict) -> &'static str {
-    match (verdict.pictures, verdict.answers) {
-        (true, true) => "the pictures agree as carried, and the six glasses answer alike\n",
-        (true, false) => "the pictures agree as carried, and the glasses do not answer alike\n",
-        (false, true) => "the pictures do not agree, and the six glasses answer alike\n",
-        (false, false) => "the pictures do not agree, and the glasses do not answer alike\n",
-    }
-}
-
-fn report(heap: Global) -> Result<Vec<u8>, AllocError> {
-    let mut text = Vec::new(heap);
-    let plain = on_plain(&mut text, heap)?;
-    let first = Verdict {
-        pictures: true,
-        answers: plain.told,
+fn report(heap: Global) -> Result<String, AllocError> {
+    let mut text = String::new(heap);
+    let plain = on_plain(&mut text)?;
+    let zero = Serial::new(SerialId::Zero);
+    let links = [
+        on_link(&mut text, "18-bit link", EighteenBit, &plain)?,
+        on_link(&mut text, "16-bit link", SixteenBit, &plain)?,
+        on_link(&mut text, "9-bit link", NineBit::new(), &plain)?,
+        on_link(&mut text, "8-bit link", EightBit::new(), &plain)?,
+        on_link(&mut text, "serial link", zero, &plain)?,
+    ];
+    let verdict = Verdict {
+        pictures: links.iter().all(|link| link.pictures),
+        answers: plain.told && links.iter().all(|link| link.answers),
     };
-    let eighteen = on_link(&mut text, heap, "18-bit link", EighteenBit, &plain)?;
-    let sixteen = on_link(&mut text, heap, "16-bit link", SixteenBit, &plain)?;
-    let nine = on_link(&mut text, heap, "9-bit link", NineBit::new(), &plain)?;
-    let eight = on_link(&mut text, heap, "8-bit link", EightBit::new(), &plain)?;
-    let serial = on_link(
-        &mut text,
-        heap,
-        "serial link",
-        Serial::new(SerialId::Zero),
-        &plain,
-    )?;
-    let verdict = first
-        .and(eighteen)
-        .and(sixteen)
-        .and(nine)
-        .and(eight)
-        .and(serial);
-    text.extend_from_slice(closing(verdict).as_bytes())?;
+    writeln!(text, "{verdict}")?;
     Ok(text)
 }
 
 fn main(rt: HostRuntime) -> io::Result<()> {
     let text = report(rt.alloc())?;
-    rt.stdout().write_all(text.as_slice())
+    print!(rt; "{text}")
 }

@@ -1,11 +1,11 @@
 -- Items as signals over a link, and what they come to.
-use Rattle.std.specs.Prelude.{ℕ, ◌+◌, Bool, true, not, ◌&&◌, List, [], ◌∷◌, ◌++◌, length, ◌==◌, nat_lt}
+use Rattle.std.specs.Prelude.{◌≡◌, ℕ, ◌+◌, Bool, true, not, ◌&&◌, List, [], ◌∷◌, ◌++◌, length, ◌==◌, nat_lt}
 use Rattle.link.specs.declared.Item.{Item}
 use Rattle.link.specs.declared.Item.TheVariants.{Index, Word, Colour}
 use Rattle.link.specs.Items.{select_level}
 use Rattle.link.specs.Formats.{Format}
 use Rattle.registers.specs.Chip.{Chip, obeyed}
-use Rattle.lgdp4522.specs.Wired.{Signal, beat, select}
+use Rattle.lgdp4522.specs.Wired.{Signal, Wired, after_all, beat, select}
 
 -- beats under one level of register select
 abbrev pub beat_signals : {B : Type 0} → Bool → List B → List (Signal B)
@@ -40,5 +40,14 @@ all_obeyed f (i ∷ is) s = all_obeyed f is (obeyed (as_carried f i) s)
 abbrev pub expected : ℕ → List Item → Bool
 expected k [] = true
 expected k (Index n ∷ is) = nat_lt n 128 && expected n is
-expected k (Word n ∷ is) = nat_lt n 65536 && not (k == 34) && expected k is
-expected k (Colour n ∷ is) = nat_lt n 262144 && k == 34 && expected k is
+expected k (Word n ∷ is) = nat_lt n 65536 && not (k == 0x22) && expected k is
+expected k (Colour n ∷ is) = nat_lt n 262144 && k == 0x22 && expected k is
+
+-- what sending items leaves: their signals, one after another
+abbrev pub sent : {B : Type 0} → List Item → Wired B → Wired B
+sent is s = after_all (signals s.link.format is) s
+
+-- items went over a link, from s to t; those that the controller expects it obeys
+pub record Went {B : Type 0} (is : List Item) (s t : Wired B) : Type 0 where
+  pub beats : t ≡ sent is s
+  pub arrived : expected s.chip.registers.index is ≡ true → t.chip ≡ all_obeyed s.link.format is s.chip

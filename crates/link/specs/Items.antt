@@ -1,5 +1,5 @@
 -- Items, and what is common to every link's way with them.
-use Rattle.std.specs.Prelude.{ℕ, ◌+◌, ◌*◌, ◌/◌, ◌%◌, Bool, true, false, cond}
+use Rattle.std.specs.Prelude.{ℕ, ◌+◌, ◌*◌, ◌/◌, ◌%◌, Bool, true, false, if◌then◌else◌}
 use Rattle.link.specs.declared.Item.{Item}
 use Rattle.link.specs.declared.Item.TheVariants.{Index, Word, Colour}
 
@@ -18,7 +18,7 @@ counted w c (Colour _) = c
 -- what arrives: select low, an index, of which the word's upper nine bits are ignored;
 -- select high, a colour where the controller's index is 22h, else a word
 abbrev pub item_of : Bool → Bool → ℕ → ℕ → Item
-item_of high is_22h word colour = cond high (cond is_22h (Colour colour) (Word word)) (Index (word % 128))
+item_of high is_22h word colour = if high then (if is_22h then Colour colour else Word word) else Index (word % 128)
 
 -- an index is sent as a word whose upper nine bits are 0
 abbrev pub index_word : ℕ → ℕ

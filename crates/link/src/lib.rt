@@ -1,16 +1,16 @@
 // Links: how items go to the controller as beats, and how beats arrive as items.
 #![tactic(auto)]
 
-ghost use Rattle.std.specs.Prelude.{◌≡◌, List, [], length, ◌==◌};
+ghost use Rattle.std.specs.Prelude.{◌≡◌, ℕ, length, ◌==◌};
 ghost use Rattle.std.specs.List.{slice_get};
 ghost use Rattle.link.specs.Items.{counted, item_of, select_level};
 ghost use Rattle.link.specs.Faults.{fault_layer, fault_number};
-ghost use Rattle.link.specs.Formats.{Format, Lawful, Taken, answer_to, held_after, taken};
+ghost use Rattle.link.specs.Formats.{Lawful, State, answered, dropped, taken, took};
 
 use refusal::Layer;
 
 // What travels in one piece: an index names a register (7 bits), a word goes into it (16 bits), a colour goes into a cell (18 bits).
-#[derive(Clone, Copy)]
+#[derive(Clone, Copy, Debug, PartialEq, Eq, Hash)]
 pub enum Item {
     Index(u8),
     Word(u16),
@@ -24,8 +24,7 @@ impl Item {
     {
         match self {
             Item::Index(_) => false,
-            Item::Word(_) => true,
-            Item::Colour(_) => true,
+            Item::Word(_) | Item::Colour(_) => true,
         }
     }
 
@@ -34,15 +33,15 @@ impl Item {
         ensures { result ≡ counted word colour self }
     {
         match self {
-            Item::Index(_) => word,
-            Item::Word(_) => word,
+            Item::Index(_) | Item::Word(_) => word,
             Item::Colour(_) => colour,
         }
     }
 
     // What arrives: register select low, an index, by its lower seven bits; high, a colour if the index is 22h, else a word.
+    // 22h stands as a number, as the rule says it: of all registers a link has to know this one alone.
     pub fn arriving(rs: bool, index: u8, word: u16, colour: u32) -> Item
-        ensures { result ≡ item_of rs (index == 34) word colour }
+        ensures { result ≡ item_of rs (index == 0x22) word colour }
     {
         if !rs {
             Item::Index((word % 128) as u8)
@@ -54,34 +53,31 @@ impl Item {
     }
 }
 
-// The first beat of two, held until the second arrives.
-#[derive(Clone, Copy)]
-pub struct Half<B: Copy> {
+// A beat as it arrives, under a level of register select.
+#[derive(Clone, Copy, Debug, PartialEq, Eq, Hash)]
+pub struct Taken<B: Copy> {
     pub rs: bool,
     pub beat: B,
 }
 
-#[derive(Clone, Copy)]
+#[derive(Clone, Copy, Debug, PartialEq, Eq, Hash)]
 pub enum LinkFault {
     // a beat wider than the link
-    Wide,
+    Wide = 1,
 }
 
 impl LinkFault {
+    // A refusal is told by its number and its layer: so the rule wants it.
     pub fn number(self) -> u8
         ensures { result ≡ fault_number self }
     {
-        match self {
-            LinkFault::Wide => 1,
-        }
+        self as u8
     }
 
     pub fn layer(self) -> Layer
         ensures { result ≡ fault_layer self }
     {
-        match self {
-            LinkFault::Wide => Layer::Link,
-        }
+        Layer::Link
     }
 }
 
@@ -90,39 +86,42 @@ pub trait Link {
     type Beat: Copy;
 
     // how many beats a word (or an index) takes, and a colour
+    ghost WORD_BEATS: { ℕ };
+
     const WORD_BEATS: usize;
+
+    ghost COLOUR_BEATS: { ℕ };
 
     const COLOUR_BEATS: usize;
 
-    // how items go as beats, how beats arrive as items, and how a colour is carried
-    ghost format: { Self → Format Self.Beat };
-
-    // the beats held of an unfinished item, in order
-    ghost held: { Self → List (Taken Self.Beat) };
+    // how items go as beats, how beats arrive as items, and how a colour is carried; and the beats held of an unfinished item
+    ghost state: { Self → State Self.Beat };
 
     // How many beats an item takes.
-    fn count(&self, item: Item) -> usize
-        ensures { result ≡ length ((format self.now).beats item) };
+    final fn count(&self, item: Item) -> usize
+        ensures { result ≡ length ((state self.now).format.beats item) }
+    {
+        item.count(Self::WORD_BEATS, Self::COLOUR_BEATS)
+    }
 
     // Beat n of an item, from 0; past the last there is none.
     fn beat(&self, item: Item, n: usize) -> Option<Self::Beat>
-        ensures { result ≡ slice_get ((format self.now).beats item) n };
+        ensures { result ≡ slice_get ((state self.now).format.beats item) n };
 
     // The colour that a colour arrives as.
     fn carry(&self, colour: u32) -> u32
-        ensures { result ≡ (format self.now).carried colour };
+        ensures { result ≡ (state self.now).format.carried colour };
 
     // A falling chip select drops a half item.
     fn select(&mut self)
-        ensures format { format self.new ≡ format self.old }
-        ensures none { held self.new ≡ [] };
+        ensures { state self.new ≡ dropped (state self.old) };
 
     // One beat, under a level of register select and the controller's index: the item that it completes, if any.
-    // A beat wider than the link is refused and changes nothing.
+    // A beat wider than the link is refused and changes nothing. Register select and beat are two wires and two parameters:
+    // one struct for both would be made at each call to be taken apart at once.
     fn take(&mut self, index: u8, rs: bool, beat: Self::Beat) -> Result<Option<Item>, LinkFault>
-        ensures format { format self.new ≡ format self.old }
-        ensures answer { result ≡ answer_to (format self.old) (index == 34) (held self.old) (taken rs beat) }
-        ensures after { held self.new ≡ held_after (format self.old) (held self.old) (taken rs beat) };
+        ensures answer { result ≡ answered (index == 0x22) (taken rs beat) (state self.old) }
+        ensures after { state self.new ≡ took (taken rs beat) (state self.old) };
 
-    ghost lawful: { (s : Self) → Lawful (format s) };
+    ghost lawful: { (s : Self) → Lawful WORD_BEATS COLOUR_BEATS (state s).format };
 }

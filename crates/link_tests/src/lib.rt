@@ -13,54 +13,21 @@ mod tests {
     use short_links::eight::EightBit;
     use short_links::serial::{Serial, SerialId};
 
-    type Answer = Result<Option<Item>, LinkFault>;
+    const NOTHING: Result<Option<Item>, LinkFault> = Ok(None);
 
-    fn nothing(answer: Answer) -> bool {
-        match answer {
-            Ok(None) => true,
-            _ => false,
-        }
-    }
-
-    fn is_index(answer: Answer, index: u8) -> bool {
-        match answer {
-            Ok(Some(Item::Index(i))) => i == index,
-            _ => false,
-        }
-    }
-
-    fn is_word(answer: Answer, word: u16) -> bool {
-        match answer {
-            Ok(Some(Item::Word(w))) => w == word,
-            _ => false,
-        }
-    }
-
-    fn is_colour(answer: Answer, colour: u32) -> bool {
-        match answer {
-            Ok(Some(Item::Colour(c))) => c == colour,
-            _ => false,
-        }
-    }
-
-    fn too_wide(answer: Answer) -> bool {
-        match answer {
-            Err(fault) => fault.number() == 1 && matches!(fault.layer(), Layer::Link),
-            Ok(_) => false,
-        }
-    }
+    const WIDE: Result<Option<Item>, LinkFault> = Err(LinkFault::Wide);
 
     // The first beat's register select decides, whatever the second's is.
     #[test]
     fn select_changes_within_an_item(rt: HostRuntime) {
         let mut nine = NineBit::new();
-        assert!(rt; nothing(nine.take(0, true, 0x15e)));
-        assert!(rt; is_word(nine.take(0, false, 0x002), 0xaf01));
+        assert!(rt; nine.take(0, true, 0x15e) == NOTHING);
+        assert!(rt; nine.take(0, false, 0x002) == Ok(Some(Item::Word(0xaf01))));
         let mut eight = EightBit::new();
-        assert!(rt; nothing(eight.take(0x22, false, 0x00)));
-        assert!(rt; is_index(eight.take(0x22, true, 0x44), 0x44));
-        assert!(rt; nothing(eight.take(0x22, true, 0xff)));
-        assert!(rt; is_colour(eight.take(0x22, false, 0xff), 0x3effe));
+        assert!(rt; eight.take(0x22, false, 0x00) == NOTHING);
+        assert!(rt; eight.take(0x22, true, 0x44) == Ok(Some(Item::Index(0x44))));
+        assert!(rt; eight.take(0x22, true, 0xff) == NOTHING);
+        assert!(rt; eight.take(0x22, false, 0xff) == Ok(Some(Item::Colour(0x3effe))));
     }
 
     // After a start byte of the other ID, or one that asks to read, nothing is taken until the next select.
@@ -69,58 +36,60 @@ mod tests {
         let mut serial = Serial::new(SerialId::Zero);
         for start in [0x74u8, 0x76, 0x71, 0x73, 0x00, 0xff] {
             serial.select();
-            assert!(rt; nothing(serial.take(0, true, start)));
-            assert!(rt; nothing(serial.take(0, true, 0x00)));
-            assert!(rt; nothing(serial.take(0, true, 0x22)));
-            assert!(rt; nothing(serial.take(0, true, 0x70)));
-            assert!(rt; nothing(serial.take(0, true, 0x00)));
-            assert!(rt; nothing(serial.take(0, true, 0x22)));
+            assert!(rt; serial.take(0, true, start) == NOTHING);
+            assert!(rt; serial.take(0, true, 0x00) == NOTHING);
+            assert!(rt; serial.take(0, true, 0x22) == NOTHING);
+            assert!(rt; serial.take(0, true, 0x70) == NOTHING);
+            assert!(rt; serial.take(0, true, 0x00) == NOTHING);
+            assert!(rt; serial.take(0, true, 0x22) == NOTHING);
         }
         serial.select();
-        assert!(rt; nothing(serial.take(0, true, 0x70)));
-        assert!(rt; nothing(serial.take(0, true, 0x00)));
-        assert!(rt; is_index(serial.take(0, true, 0x22), 0x22));
+        assert!(rt; serial.take(0, true, 0x70) == NOTHING);
+        assert!(rt; serial.take(0, true, 0x00) == NOTHING);
+        assert!(rt; serial.take(0, true, 0x22) == Ok(Some(Item::Index(0x22))));
     }
 
     // A select drops a half item.
     #[test]
     fn half_items_before_a_select(rt: HostRuntime) {
         let mut nine = NineBit::new();
-        assert!(rt; nothing(nine.take(0, true, 0x1ff)));
+        assert!(rt; nine.take(0, true, 0x1ff) == NOTHING);
         nine.select();
-        assert!(rt; nothing(nine.take(0, true, 0x15e)));
-        assert!(rt; is_word(nine.take(0, true, 0x002), 0xaf01));
+        assert!(rt; nine.take(0, true, 0x15e) == NOTHING);
+        assert!(rt; nine.take(0, true, 0x002) == Ok(Some(Item::Word(0xaf01))));
         let mut serial = Serial::new(SerialId::One);
-        assert!(rt; nothing(serial.take(0, false, 0x76)));
-        assert!(rt; nothing(serial.take(0, false, 0xdb)));
+        assert!(rt; serial.take(0, false, 0x76) == NOTHING);
+        assert!(rt; serial.take(0, false, 0xdb) == NOTHING);
         serial.select();
-        assert!(rt; nothing(serial.take(0, false, 0x74)));
-        assert!(rt; nothing(serial.take(0, false, 0x80)));
-        assert!(rt; is_index(serial.take(0, false, 0x45), 0x45));
+        assert!(rt; serial.take(0, false, 0x74) == NOTHING);
+        assert!(rt; serial.take(0, false, 0x80) == NOTHING);
+        assert!(rt; serial.take(0, false, 0x45) == Ok(Some(Item::Index(0x45))));
     }
 
     // Further byte pairs are further items under the same start byte.
     #[test]
     fn four_bytes_under_one_start_byte(rt: HostRuntime) {
         let mut serial = Serial::new(SerialId::One);
-        assert!(rt; nothing(serial.take(0x22, false, 0x76)));
-        assert!(rt; nothing(serial.take(0x22, false, 0xf8)));
-        assert!(rt; is_colour(serial.take(0x22, false, 0x00), 0x3e000));
-        assert!(rt; nothing(serial.take(0x44, false, 0x07)));
-        assert!(rt; is_word(serial.take(0x44, false, 0x00), 0x0700));
+        assert!(rt; serial.take(0x22, false, 0x76) == NOTHING);
+        assert!(rt; serial.take(0x22, false, 0xf8) == NOTHING);
+        assert!(rt; serial.take(0x22, false, 0x00) == Ok(Some(Item::Colour(0x3e000))));
+        assert!(rt; serial.take(0x44, false, 0x07) == NOTHING);
+        assert!(rt; serial.take(0x44, false, 0x00) == Ok(Some(Item::Word(0x0700))));
     }
 
     // A beat one above the width is refused and changes nothing, also within an item.
     #[test]
     fn beats_above_the_width(rt: HostRuntime) {
+        assert!(rt; LinkFault::Wide.number() == 1);
+        assert!(rt; LinkFault::Wide.layer() == Layer::Link);
         let mut eighteen = EighteenBit;
-        assert!(rt; too_wide(eighteen.take(0x22, true, 0x40000)));
-        assert!(rt; is_colour(eighteen.take(0x22, true, 0x3ffff), 0x3ffff));
+        assert!(rt; eighteen.take(0x22, true, 0x40000) == WIDE);
+        assert!(rt; eighteen.take(0x22, true, 0x3ffff) == Ok(Some(Item::Colour(0x3ffff))));
         let mut nine = NineBit::new();
-        assert!(rt; too_wide(nine.take(0x22, true, 0x200)));
-        assert!(rt; nothing(nine.take(0x22, true, 0x1ff)));
-        assert!(rt; too_wide(nine.take(0x22, true, 0x200)));
-        assert!(rt; is_colour(nine.take(0x22, true, 0x000), 0x3fe00));
+        assert!(rt; nine.take(0x22, true, 0x200) == WIDE);
+        assert!(rt; nine.take(0x22, true, 0x1ff) == NOTHING);
+        assert!(rt; nine.take(0x22, true, 0x200) == WIDE);
+        assert!(rt; nine.take(0x22, true, 0x000) == Ok(Some(Item::Colour(0x3fe00))));
     }
 
     // At the controller: a half item and a wide beat leave the picture alone, and a beat later it is drawn.

@@ -1,5 +1,5 @@
 -- Colours as letters, and pictures as lines of them.
-use Rattle.std.specs.Prelude.{ℕ, ◌+◌, ◌-◌, ◌*◌, ◌/◌, cond, List, [], ◌∷◌, ◌++◌, codes, ◌==◌, slice_index}
+use Rattle.std.specs.Prelude.{ℕ, ◌+◌, ◌-◌, ◌*◌, ◌/◌, if◌then◌else◌, List, [], ◌∷◌, ◌++◌, codes, ◌==◌, slice_index}
 use Rattle.pixel.specs.Colours.{blue_of, green_of, red_of}
 
 -- 4 × red's top bit + 2 × green's + blue's, among K B G C R M Y W
@@ -8,10 +8,10 @@ letter_of c = slice_index (codes "KBGCRMYW") (red_of c / 32 * 4 + green_of c / 3
 
 -- a line end once no cell is left of a row
 abbrev pub line_end : ℕ → List ℕ
-line_end left = cond (left == 0) (10 ∷ []) []
+line_end left = if left == 0 then 10 ∷ [] else []
 
 abbrev pub next_left : ℕ → ℕ → ℕ
-next_left width left = cond (left == 0) width left
+next_left width left = if left == 0 then width else left
 
 -- the cells' letters, with `left` cells to come in the row that has begun
 abbrev pub lettered : ℕ → ℕ → List ℕ → List ℕ

@@ -1,43 +1,42 @@
 // A picture as text: one letter for each cell, one line for each row.
 #![tactic(auto)]
 
-ghost use Rattle.std.specs.Prelude.{◌≡◌, ◌-◌, ◌∷◌, ◌++◌, IfOk};
-ghost use Rattle.picture.specs.Letters.{letter_of, lettered, line_end, next_left};
+ghost use Rattle.std.specs.Prelude.{◌≡◌, ◌++◌, map, IfOk, OnOk};
+ghost use Rattle.std.specs.String.{string_bytes};
+ghost use Rattle.picture.specs.Letters.{letter_of, lettered};
 
 use pixel::colour::{blue, green, red};
 use std::alloc::{AllocError, Global};
 
 // By 4 × red's top bit + 2 × green's + blue's.
-const LETTERS: [u8; 8] = *b"KBGCRMYW";
+const LETTERS: [char; 8] = ['K', 'B', 'G', 'C', 'R', 'M', 'Y', 'W'];
 
 // The letter of a colour: K B G C R M Y W.
-pub fn letter(colour: u32) -> u8
+pub fn letter(colour: u32) -> char
     ensures { result ≡ letter_of colour }
 {
     LETTERS[(red(colour) / 32 * 4 + green(colour) / 32 * 2 + blue(colour) / 32) as usize]
 }
 
-// Adds one letter, and a line end where the row that has `left` cells to come ends; answers how many are then to come.
-fn write_cell(text: &mut Vec<u8>, cell: u32, width: usize, left: usize) -> Result<usize, AllocError>
-    ensures { IfOk result (λ k. (text.new.items ≡ text.old.items ++ (letter_of cell ∷ line_end (left - 1))) × (k ≡ next_left width (left - 1))) }
+// Adds the letters of some cells.
+fn add_letters(text: &mut String, cells: &[u32]) -> Result<(), AllocError>
+    ensures { OnOk result (string_bytes text.new ≡ string_bytes text.old ++ map letter_of cells.now) }
 {
-    text.push(letter(cell))?;
-    let left = left.saturating_sub(1);
-    if left > 0 {
-        return Ok(left);
-    }
-    text.push(b'\n')?;
-    Ok(width)
+    text.extend(cells.iter().map(|cell| letter(*cell)))
 }
 
-// The cells' letters, and a line end after each `width` of them.
-pub fn rows(heap: Global, cells: &[u32], width: usize) -> Result<Vec<u8>, AllocError>
-    ensures { IfOk result (λ text. text.items ≡ lettered width width cells.now) }
+// The cells' letters, and a line end after each `width` of them; a width of 0 counts as 1.
+#[tactic(auto, using(crate::proofs::Lines::by_rows))]
+pub fn rows(heap: Global, cells: &[u32], width: usize) -> Result<String, AllocError>
+    ensures { IfOk result (λ text. string_bytes text ≡ lettered width width cells.now) }
 {
-    let mut text = Vec::new(heap);
-    let mut left = width;
-    for cell in cells {
-        left = write_cell(&mut text, *cell, width, left)?;
+    let width = width.max(1);
+    let mut text = String::new(heap);
+    for row in cells.chunks(width) {
+        add_letters(&mut text, row)?;
+        if row.len() == width {
+            text.push('\n')?;
+        }
     }
     Ok(text)
 }

@@ -1,4 +1,3 @@
-pub mod Colouring
 pub mod Meeting
 pub mod Windows
 pub mod Places

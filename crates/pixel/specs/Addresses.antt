@@ -1,5 +1,5 @@
 -- Addresses and offsets: two sorts of number for one cell.
-use Rattle.std.specs.Prelude.{ℕ, ◌+◌, ◌*◌, ◌/◌, ◌%◌, Bool, cond, ◌&&◌, Some, None, Option, nat_lt}
+use Rattle.std.specs.Prelude.{ℕ, ◌+◌, ◌*◌, ◌/◌, ◌%◌, Bool, if◌then◌else◌, ◌&&◌, Some, None, Option, nat_lt}
 use Rattle.pixel.specs.declared.rect.Place.{Place}
 use Rattle.pixel.specs.declared.rect.Size.{Size}
 use Rattle.pixel.specs.declared.address.Address.{Address}
@@ -11,7 +11,7 @@ address_at ad = record { number = ad }
 
 -- AD is row × 256 + column
 abbrev pub address_of : Place → Option Address
-address_of p = cond (nat_lt p.x 256 && nat_lt p.y 256) (Some (address_at (p.y * 256 + p.x))) None
+address_of p = if nat_lt p.x 256 && nat_lt p.y 256 then Some (address_at (p.y * 256 + p.x)) else None
 
 abbrev pub place_of : Address → Place
 place_of a = place_at (a.number % 256) (a.number / 256)
@@ -25,7 +25,7 @@ on_screen s p = nat_lt p.x s.width && nat_lt p.y s.height
 
 -- the one conversion: an address off the screen has no offset
 abbrev pub offset_of : Size → Address → Option Offset
-offset_of s a = cond (on_screen s (place_of a)) (Some (record { index = cell_index s (place_of a) })) None
+offset_of s a = if on_screen s (place_of a) then Some (record { index = cell_index s (place_of a) }) else None
 
 abbrev pub then_offset : Size → Option Address → Option Offset
 then_offset s None = None

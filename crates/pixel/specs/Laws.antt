@@ -1,5 +1,5 @@
 -- What holds of colours, modes, steps and addresses, in the subject's words.
-use Rattle.std.specs.Prelude.{◌≡◌, ℕ, ◌*◌, ◌/◌, ◌%◌, ◌<◌, true, cond, Some, ◌==◌}
+use Rattle.std.specs.Prelude.{◌≡◌, ℕ, ◌*◌, ◌/◌, ◌%◌, ◌<◌, true, if◌then◌else◌, Some, ◌==◌}
 use Rattle.pixel.specs.declared.address.Address.{Address}
 use Rattle.pixel.specs.declared.address.Offset.{Offset}
 use Rattle.pixel.specs.declared.mode.Mode.{Mode}
@@ -13,7 +13,7 @@ use Rattle.pixel.specs.Addresses.{address_of, offset_of, place_of}
 
 pub record Laws : Type 0 where
   -- a cell that a colour met keeps each bit whose mask bit is 1, and has the colour's others
-  pub meeting : (mask old new k : ℕ) → k < 18 → bit k (met mask old new) ≡ cond (bit k mask == 1) (bit k old) (bit k new)
+  pub meeting : (mask old new k : ℕ) → k < 18 → bit k (met mask old new) ≡ (if bit k mask == 1 then bit k old else bit k new)
   -- and it is a colour, where mask and cell were in range
   pub met_fits : (mask old new : ℕ) → mask < 262144 → old < 262144 → met mask old new < 262144
   -- exchanging red and blue twice gives the colour back

@@ -5,26 +5,48 @@ ghost use Rattle.pixel.specs.Addresses.{address_at, address_of, offset_at, offse
 use crate::rect::{Place, Size};
 
 // A cell's address AD: row × 256 + column.
-#[derive(Clone, Copy)]
+#[derive(Clone, Copy, Debug, PartialEq, Eq, Hash)]
 pub struct Address {
     number: u16,
 }
 
 // Where a cell lies in memory: row × width + column. Only `Address::offset` makes one.
-#[derive(Clone, Copy)]
+#[derive(Clone, Copy, Debug, PartialEq, Eq, Hash)]
 pub struct Offset {
     index: usize,
 }
 
-impl Address {
-    // Every word of 16 bits is an address, on a screen or off it.
-    pub fn new(number: u16) -> Address
-        ensures { result ≡ address_at number }
-    {
+// Every word of 16 bits is an address, on a screen or off it.
+impl From<u16> for Address {
+    ghost from_gives = { λ number address. address ≡ address_at number };
+
+    fn from(number: u16) -> Address {
         Address { number }
     }
+}
 
-    // The address of a place; one beyond column or row 255 has none.
+impl From<Address> for u16 {
+    ghost from_gives = { λ address number. number ≡ address.number };
+
+    fn from(address: Address) -> u16 {
+        address.number
+    }
+}
+
+impl From<Address> for Place {
+    ghost from_gives = { λ address place. place ≡ place_of address };
+
+    fn from(address: Address) -> Place {
+        Place {
+            x: address.number % 256,
+            y: address.number / 256,
+        }
+    }
+}
+
+impl Address {
+    // The address of a place; one beyond column or row 255 has none. No `TryFrom`: there is no more to tell than that, and
+    // `?` on an option reads plainer than an error that is thrown away.
     pub fn of(place: Place) -> Option<Address>
         ensures { result ≡ address_of place }
     {
@@ -37,26 +59,11 @@ impl Address {
         }
     }
 
-    pub fn number(self) -> u16
-        ensures { result ≡ self.number }
-    {
-        self.number
-    }
-
-    pub fn place(self) -> Place
-        ensures { result ≡ place_of self }
-    {
-        Place {
-            x: self.number % 256,
-            y: self.number / 256,
-        }
-    }
-
     // The offset in the memory of a screen; an address off the screen has none.
     pub fn offset(self, size: Size) -> Option<Offset>
         ensures { result ≡ offset_of size self }
     {
-        let Place { x, y } = self.place();
+        let Place { x, y } = Place::from(self);
         if x < size.width && y < size.height {
             Some(Offset {
                 index: y as usize * size.width as usize + x as usize,

@@ -5,7 +5,8 @@ ghost use Rattle.pixel.specs.Colours.{blue_of, colour_of, exchanged, green_of, l
 // The greatest colour and the greatest mask: 18 bits, all 1.
 pub const FULL: u32 = 0x3ffff;
 
-// Each of the three parts has six bits; bits above the eighteenth are ignored.
+// Each of the three parts has six bits; bits above the eighteenth are ignored. Three functions that differ by a number, since
+// each is called by its part's name: a parameter in their place would be no plainer.
 pub fn red(colour: u32) -> u32
     ensures { result ≡ red_of colour }
 {

@@ -1,11 +1,11 @@
 // Modes: where a window's first cell is, and how a place steps through the window.
-ghost use Rattle.std.specs.Prelude.{◌≡◌};
-ghost use Rattle.pixel.specs.Modes.{mode_number, mode_of, moved, passes, start_corner, stepped};
+ghost use Rattle.std.specs.Prelude.{◌≡◌, if◌then◌else◌};
+ghost use Rattle.pixel.specs.Modes.{NamesMode, mode_number, mode_of, moved, passes, start_corner, stepped};
 
 use crate::rect::{Place, Rect};
 
 // To the right or to the left, down or up, and whether along the column first (vertical) or along the row.
-#[derive(Clone, Copy)]
+#[derive(Clone, Copy, Debug, PartialEq, Eq, Hash)]
 pub struct Mode {
     pub down: bool,
     pub right: bool,
@@ -13,7 +13,7 @@ pub struct Mode {
 }
 
 impl Mode {
-    // The mode of a number: bit 2 down, bit 1 right, bit 0 column first; higher bits are ignored.
+    // The mode of a number: bit 2 down, bit 1 right, bit 0 column first; higher bits are ignored, so it is no `From`.
     pub fn from_number(number: u8) -> Mode
         ensures { result ≡ mode_of number }
     {
@@ -23,43 +23,112 @@ impl Mode {
             vertical: number % 2 == 1,
         }
     }
+}
 
-    // Its number, 0 to 7.
-    pub fn number(self) -> u8
-        ensures { result ≡ mode_number self }
-    {
-        let down = if self.down { 4 } else { 0 };
-        let right = if self.right { 2 } else { 0 };
-        let vertical = if self.vertical { 1 } else { 0 };
-        down + right + vertical
+// A number that names no mode: one above 7.
+#[derive(Clone, Copy, Debug, PartialEq, Eq, Hash)]
+pub struct UnknownMode(pub u8);
+
+// The mode of a number, where the number names one.
+impl TryFrom<u8> for Mode {
+    type Error = UnknownMode;
+
+    ghost try_from_gives = { NamesMode };
+
+    fn try_from(number: u8) -> Result<Self, UnknownMode> {
+        if number > 7 {
+            return Err(UnknownMode(number));
+        }
+        Ok(Mode::from_number(number))
     }
 }
 
-// Whether a coordinate that goes up (or down) between two edges has none left before the edge.
-fn at_edge(up: bool, low: u16, high: u16, v: u16) -> bool
-    ensures { result ≡ passes up low high v }
-{
-    if up { v >= high } else { v <= low }
+// A mode's number, 0 to 7.
+impl From<Mode> for u8 {
+    ghost from_gives = { λ m n. n ≡ mode_number m };
+
+    fn from(mode: Mode) -> u8 {
+        4 * u8::from(mode.down) + 2 * u8::from(mode.right) + u8::from(mode.vertical)
+    }
 }
 
-// One coordinate moves by one; past the edge it goes to the opposite edge.
-fn advance(up: bool, low: u16, high: u16, v: u16) -> u16
-    ensures { result ≡ moved up low high v }
-{
-    if at_edge(up, low, high, v) {
-        if up { low } else { high }
-    } else {
-        if up { v + 1 } else { v - 1 }
+// One way through a window: across its columns, or down its rows; up or down between two edges.
+#[derive(Clone, Copy)]
+struct Way {
+    up: bool,
+    low: u16,
+    high: u16,
+}
+
+impl Way {
+    // The edge that it starts from.
+    fn start(self) -> u16
+        ensures { result ≡ (if self.up then self.low else self.high) }
+    {
+        if self.up { self.low } else { self.high }
+    }
+
+    // Whether a coordinate has none left before the edge.
+    fn at_edge(self, v: u16) -> bool
+        ensures { result ≡ passes self.up self.low self.high v }
+    {
+        if self.up {
+            v >= self.high
+        } else {
+            v <= self.low
+        }
+    }
+
+    // One coordinate moves by one; past the edge it goes to the opposite edge.
+    fn advance(self, v: u16) -> u16
+        ensures { result ≡ moved self.up self.low self.high v }
+    {
+        if self.at_edge(v) {
+            self.start()
+        } else if self.up {
+            v + 1
+        } else {
+            v - 1
+        }
+    }
+
+    // A step: `v` moves along this way, and where it passes the edge `w` moves along the other.
+    fn step(self, other: Way, v: u16, w: u16) -> (u16, u16)
+        ensures first { result.0 ≡ moved self.up self.low self.high v }
+        ensures second { result.1 ≡ (if passes self.up self.low self.high v then moved other.up other.low other.high w else w) }
+    {
+        let w = if self.at_edge(v) { other.advance(w) } else { w };
+        (self.advance(v), w)
     }
 }
 
 impl Rect {
+    fn columns(self, mode: Mode) -> Way
+        ensures { result ≡ record { up = mode.right; low = self.left; high = self.right } }
+    {
+        Way {
+            up: mode.right,
+            low: self.left,
+            high: self.right,
+        }
+    }
+
+    fn rows(self, mode: Mode) -> Way
+        ensures { result ≡ record { up = mode.down; low = self.top; high = self.bottom } }
+    {
+        Way {
+            up: mode.down,
+            low: self.top,
+            high: self.bottom,
+        }
+    }
+
     // The start corner: left if the mode goes right, else right; top if it goes down, else bottom.
     pub fn start(self, mode: Mode) -> Place
         ensures { result ≡ start_corner self mode }
     {
-        let x = if mode.right { self.left } else { self.right };
-        let y = if mode.down { self.top } else { self.bottom };
+        let x = self.columns(mode).start();
+        let y = self.rows(mode).start();
         Place { x, y }
     }
 
@@ -68,23 +137,13 @@ impl Rect {
     pub fn step(self, mode: Mode, place: Place) -> Place
         ensures { result ≡ stepped self mode place }
     {
+        let columns = self.columns(mode);
+        let rows = self.rows(mode);
         if mode.vertical {
-            let over = at_edge(mode.down, self.top, self.bottom, place.y);
-            let y = advance(mode.down, self.top, self.bottom, place.y);
-            let x = if over {
-                advance(mode.right, self.left, self.right, place.x)
-            } else {
-                place.x
-            };
+            let (y, x) = rows.step(columns, place.y, place.x);
             Place { x, y }
         } else {
-            let over = at_edge(mode.right, self.left, self.right, place.x);
-            let x = advance(mode.right, self.left, self.right, place.x);
-            let y = if over {
-                advance(mode.down, self.top, self.bottom, place.y)
-            } else {
-                place.y
-            };
+            let (x, y) = columns.step(rows, place.x, place.y);
             Place { x, y }
         }
     }

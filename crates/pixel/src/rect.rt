@@ -2,20 +2,20 @@
 ghost use Rattle.std.specs.Prelude.{◌≡◌};
 ghost use Rattle.pixel.specs.Rects.{fits_in, holds_place};
 
-#[derive(Clone, Copy)]
+#[derive(Clone, Copy, Debug, PartialEq, Eq, Hash)]
 pub struct Size {
     pub width: u16,
     pub height: u16,
 }
 
-#[derive(Clone, Copy)]
+#[derive(Clone, Copy, Debug, PartialEq, Eq, Hash)]
 pub struct Place {
     pub x: u16,
     pub y: u16,
 }
 
 // Both edges of a rectangle belong to it.
-#[derive(Clone, Copy)]
+#[derive(Clone, Copy, Debug, PartialEq, Eq, Hash)]
 pub struct Rect {
     pub left: u16,
     pub top: u16,
@@ -37,9 +37,6 @@ impl Rect {
     pub fn holds(self, place: Place) -> bool
         ensures { result ≡ holds_place self place }
     {
-        self.left <= place.x
-            && place.x <= self.right
-            && self.top <= place.y
-            && place.y <= self.bottom
+        (self.left..=self.right).contains(&place.x) && (self.top..=self.bottom).contains(&place.y)
     }
 }

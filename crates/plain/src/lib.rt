@@ -1,17 +1,18 @@
 // The plain glass: cells in memory with no controller before them. It carries each colour unchanged.
 #![tactic(auto)]
 
-ghost use Rattle.std.specs.Prelude.{◌≡◌, false, length};
-ghost use Rattle.cells.specs.Sizes.{fits_memory};
+ghost use Rattle.std.specs.Prelude.{◌≡◌, length};
+ghost use Rattle.pixel.specs.Addresses.{offset_at};
+ghost use Rattle.pixel.specs.Modes.{stepped};
+ghost use Rattle.cells.specs.Memory.{memory_met};
+ghost use Rattle.cells.specs.Sizes.{SparedUnfit, fitted_cells, fitted_size};
 ghost use Rattle.glass.specs.Calls.{InkTaken, inked};
-ghost use Rattle.glass.specs.Memories.{fitted_cells, fitted_size};
 ghost use Rattle.glass.specs.Panels.{Same, new_panel};
-ghost use Rattle.plain.specs.Plain.{Fitted, Landed, PlainReached, plain_panel};
-ghost use Rattle.plain.specs.Plains.{possible_of};
+ghost use Rattle.glass.proofs.Keeps.{mode_below};
+ghost use Rattle.plain.specs.Plain.{PlainReached, plain_panel};
 
-use cells::{CellMemory, check};
+use cells::CellMemory;
 use glass::{Glass, GlassFault, checks};
-use pixel::colour::FULL;
 use pixel::mode::Mode;
 use pixel::rect::{Place, Rect, Size};
 
@@ -19,6 +20,8 @@ use pixel::rect::{Place, Rect, Size};
 pub struct PlainGlass<M> {
     memory: M,
     size: Size,
+    // beside place, mode and mask, which have their values without a window too; in one option with them, each call that the
+    // checks have passed would open it again
     window: Option<Rect>,
     place: Place,
     mode: Mode,
@@ -28,33 +31,16 @@ pub struct PlainGlass<M> {
 
 impl<M: CellMemory> PlainGlass<M> {
     // A new glass, every cell 0. Where `check` refuses size and memory it is one of 0 × 0, and the memory is untouched.
-    pub fn fit(memory: M, size: Size) -> Self
-        ensures reached { PlainReached M.CellMemory.cells result }
-        ensures new { Same (plain_panel M.CellMemory.cells result) (new_panel (fitted_size size (length (M.CellMemory.cells memory))) (λ c. c)) }
-        ensures memory { M.CellMemory.cells result.memory ≡ fitted_cells size (M.CellMemory.cells memory) }
-        ensures untouched { fits_memory size (length (M.CellMemory.cells memory)) ≡ false → result.memory ≡ memory }
+    pub fn fit(mut memory: M, size: Size) -> Self
+        ensures reached { PlainReached M.cells result }
+        ensures new { Same (plain_panel M.cells result) (new_panel (fitted_size size (length (M.cells memory))) (λ c. c)) }
+        ensures memory { M.cells result.memory ≡ fitted_cells size (M.cells memory) }
+        ensures spared { SparedUnfit M.cells size memory result.memory }
     {
-        Self::fitted(memory, size)
-    }
-
-    fn fitted(mut memory: M, size: Size) -> Self
-        ensures parts { Fitted (fitted_size size (length (M.CellMemory.cells memory))) result }
-        ensures memory { M.CellMemory.cells result.memory ≡ fitted_cells size (M.CellMemory.cells memory) }
-        ensures untouched { fits_memory size (length (M.CellMemory.cells memory)) ≡ false → result.memory ≡ memory }
-    {
-        let size = match check(&memory, size) {
-            Ok(()) => {
-                memory.clear();
-                size
-            }
-            Err(_) => Size {
-                width: 0,
-                height: 0,
-            },
-        };
+        let fitted = cells::fit(&mut memory, size);
         PlainGlass {
             memory,
-            size,
+            size: fitted,
             window: None,
             place: Place { x: 0, y: 0 },
             mode: Mode::from_number(6),
@@ -65,17 +51,18 @@ impl<M: CellMemory> PlainGlass<M> {
 
     // A colour that is accepted, and the window that it goes to.
     fn land(&mut self, window: Rect, colour: u32)
-        requires reached { PlainReached M.CellMemory.cells self.old }
+        requires reached { PlainReached M.cells self.old }
         requires taken { InkTaken self.old.asleep self.old.window colour window }
-        ensures stays { PlainReached M.CellMemory.cells self.new }
-        ensures after { Same (plain_panel M.CellMemory.cells self.new) (inked colour (plain_panel M.CellMemory.cells self.old)) }
+        ensures stays { PlainReached M.cells self.new }
+        ensures after { Same (plain_panel M.cells self.new) (inked colour (plain_panel M.cells self.old)) }
     {
         self.put(window, colour);
     }
 
     // The colour meets the cell at the place, and the place steps.
     fn put(&mut self, window: Rect, colour: u32)
-        ensures { Landed M.CellMemory.cells window colour self.old self.new }
+        ensures memory { M.cells self.new.memory ≡ memory_met self.old.mask colour (offset_at self.old.size self.old.place) (M.cells self.old.memory) }
+        ensures rest { self.new ≡ record self.old { memory = self.new.memory; place = stepped window self.old.mode self.old.place } }
     {
         cells::ink(&mut self.memory, self.size, self.place, self.mask, colour);
         self.place = window.step(self.mode, self.place);
@@ -83,11 +70,11 @@ impl<M: CellMemory> PlainGlass<M> {
 }
 
 impl<M: CellMemory> Glass for PlainGlass<M> {
-    ghost means = { λ s. plain_panel M.CellMemory.cells s };
+    ghost means = { λ s. plain_panel M.cells s };
 
-    ghost reached = { λ s. PlainReached M.CellMemory.cells s };
+    ghost reached = { λ s. PlainReached M.cells s };
 
-    ghost possible = { λ s z. possible_of M.CellMemory.cells s z };
+    ghost possible = { λ s z. record { size = z.size; window = z.window; mode = mode_below s.mode; cells = z.colours; carried = λ c h. h } };
 
     fn frame(&mut self, rect: Rect, mode: u8, mask: u32) -> Result<(), GlassFault> {
         let mode = checks::frame(self.asleep, self.size, rect, mode, mask)?;
@@ -111,17 +98,11 @@ impl<M: CellMemory> Glass for PlainGlass<M> {
     }
 
     fn look(&self, place: Place) -> Result<u32, GlassFault> {
-        match cells::look(&self.memory, self.size, place) {
-            Some(cell) => Ok(cell),
-            None => Err(GlassFault::Unseen),
-        }
+        cells::look(&self.memory, self.size, place).ok_or(GlassFault::Unseen)
     }
 
     fn shade(&self, colour: u32) -> Result<u32, GlassFault> {
-        if colour > FULL {
-            return Err(GlassFault::Colour);
-        }
-        Ok(colour)
+        checks::narrow(colour)
     }
 
     fn asleep(&self) -> bool {

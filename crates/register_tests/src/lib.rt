@@ -10,13 +10,17 @@ mod tests {
 
     type Chip<'a> = Lgdp4522<SixteenBit, Lent<'a>>;
 
+    fn fitted<'a>(cells: &'a mut [u32], width: u16, height: u16) -> Chip<'a> {
+        Lgdp4522::fit(SixteenBit, Lent::new(cells), Size { width, height })
+    }
+
     fn set(chip: &mut Chip, index: u16, word: u16) -> bool {
         chip.take(false, index).is_ok() && chip.take(true, word).is_ok()
     }
 
     // A short colour at the place.
     fn ink(chip: &mut Chip, short: u16) -> bool {
-        chip.take(false, 0x22).is_ok() && chip.take(true, short).is_ok()
+        set(chip, 0x22, short)
     }
 
     fn shows(chip: &Chip, x: u16, y: u16, colour: u32) -> bool {
@@ -27,14 +31,7 @@ mod tests {
     #[test]
     fn masks(rt: HostRuntime) {
         let mut cells = [9u32; 2];
-        let mut chip = Lgdp4522::fit(
-            SixteenBit,
-            Lent::new(&mut cells),
-            Size {
-                width: 2,
-                height: 1,
-            },
-        );
+        let mut chip = fitted(&mut cells, 2, 1);
         assert!(rt; set(&mut chip, 0x23, 0x3f00) && ink(&mut chip, 0xffff));
         assert!(rt; shows(&chip, 0, 0, 0x3e03e));
         assert!(rt; set(&mut chip, 0x24, 0x003f) && ink(&mut chip, 0xffff));
@@ -47,14 +44,7 @@ mod tests {
     #[test]
     fn exchange_and_sleep(rt: HostRuntime) {
         let mut cells = [0u32; 2];
-        let mut chip = Lgdp4522::fit(
-            SixteenBit,
-            Lent::new(&mut cells),
-            Size {
-                width: 2,
-                height: 1,
-            },
-        );
+        let mut chip = fitted(&mut cells, 2, 1);
         assert!(rt; set(&mut chip, 0x03, 0x1030) && ink(&mut chip, 0xf800));
         assert!(rt; shows(&chip, 0, 0, 0x0003e));
         assert!(rt; set(&mut chip, 0x10, 0x0002) && chip.asleep());
@@ -68,14 +58,7 @@ mod tests {
     #[test]
     fn windows_and_places(rt: HostRuntime) {
         let mut cells = [0u32; 6];
-        let mut chip = Lgdp4522::fit(
-            SixteenBit,
-            Lent::new(&mut cells),
-            Size {
-                width: 3,
-                height: 2,
-            },
-        );
+        let mut chip = fitted(&mut cells, 3, 2);
         assert!(rt; set(&mut chip, 0x44, 0x0201) && set(&mut chip, 0x45, 0x0101));
         assert!(rt;
             set(&mut chip, 0x44, 0x0301)

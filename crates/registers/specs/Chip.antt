@@ -1,13 +1,12 @@
 -- The controller: registers and memory, and what an item makes of them.
-use Rattle.std.specs.Prelude.{◌≡◌, ℕ, ◌<◌, Bool, true, cond, List, length, Some, None, Option, ◌==◌, slice_index, slice_set}
-use Rattle.pixel.specs.declared.address.Offset.{Offset}
+use Rattle.std.specs.Prelude.{◌≡◌, ℕ, ◌<◌, Bool, true, if◌then◌else◌, List, length, Some, None, Option, ◌==◌, slice_index}
 use Rattle.pixel.specs.declared.rect.Place.{Place}
 use Rattle.pixel.specs.declared.rect.Rect.{Rect}
 use Rattle.pixel.specs.declared.rect.Size.{Size}
-use Rattle.pixel.specs.Colours.{met}
 use Rattle.pixel.specs.Rects.{fits_in, holds_place}
 use Rattle.pixel.specs.Modes.{stepped}
 use Rattle.pixel.specs.Addresses.{offset_at}
+use Rattle.cells.specs.Memory.{cell_in, memory_met}
 use Rattle.cells.specs.Sizes.{fits_memory}
 use Rattle.link.specs.declared.Item.{Item}
 use Rattle.link.specs.declared.Item.TheVariants.{Index, Word, Colour}
@@ -21,11 +20,6 @@ pub record Chip : Type 0 where
 abbrev pub chip_of : List ℕ → Registers → Chip
 chip_of cells r = record { memory = cells; registers = r }
 
--- the memory after a colour met the cell at an offset under a mask; a place off the screen has no cell
-abbrev pub memory_met : ℕ → ℕ → Option Offset → List ℕ → List ℕ
-memory_met mask c None cells = cells
-memory_met mask c (Some o) cells = slice_set cells o.index (met mask (slice_index cells o.index) c)
-
 -- a colour meets the cell at the place, and the place steps in the window; without a window it is dropped
 abbrev pub coloured : Option Rect → ℕ → Chip → Chip
 coloured None c s = s
@@ -38,17 +32,13 @@ coloured (Some q) c s =
 abbrev pub obeyed : Item → Chip → Chip
 obeyed (Index i) s = chip_of s.memory (with_index i s.registers)
 obeyed (Word v) s = chip_of s.memory (written v s.registers)
-obeyed (Colour c) s = cond s.registers.asleep s (coloured s.registers.window c s)
+obeyed (Colour c) s = if s.registers.asleep then s else coloured s.registers.window c s
 
 -- with the index at 22h, what register select marks as data is colours
 abbrev pub at_22h : Chip → Bool
-at_22h s = s.registers.index == 34
+at_22h s = s.registers.index == 0x22
 
 -- the cell at a place, if it is on the screen
-abbrev pub cell_in : List ℕ → Option Offset → Option ℕ
-cell_in cells None = None
-cell_in cells (Some o) = Some (slice_index cells o.index)
-
 abbrev pub cell_at : Chip → Place → Option ℕ
 cell_at s p = cell_in s.memory (offset_at s.registers.size p)
 

@@ -3,15 +3,18 @@
 
 ghost use Rattle.std.specs.Prelude.{◌≡◌};
 ghost use Rattle.pixel.specs.Modes.{stepped};
-ghost use Rattle.registers.specs.Registers.{by_bgr, power_on, set_columns, set_place, set_register, set_rows, spans, with_index, with_place, with_window, written};
+ghost use Rattle.registers.specs.Registers.{by_bgr, edges_of, power_on, set_columns, set_place, set_register, set_rows, with_index, with_place, with_window, written};
 
+pub mod register;
+
+use crate::register::Register;
 use pixel::address::Address;
 use pixel::colour::{blue, exchange, green, mix, red};
 use pixel::mode::Mode;
 use pixel::rect::{Place, Rect, Size};
 
 // The screen's size and what the registers hold. Only a screen of 0 × 0 has no window.
-#[derive(Clone, Copy)]
+#[derive(Clone, Copy, Debug, PartialEq, Eq, Hash)]
 pub struct Registers {
     pub size: Size,
     // where colours go, and where the next one goes (the address counter)
@@ -26,11 +29,12 @@ pub struct Registers {
     pub asleep: bool,
 }
 
-// A window word has the high edge in bits 15 to 8 and the low one in 7 to 0: whether low ≤ high < limit.
-fn in_order(word: u16, limit: u16) -> bool
-    ensures { result ≡ spans word limit }
+// The low edge (bits 7 to 0) and the high one (bits 15 to 8) of a window word, where low ≤ high < limit.
+fn edges(word: u16, limit: u16) -> Option<(u16, u16)>
+    ensures { result ≡ edges_of word limit }
 {
-    word % 256 <= word / 256 && word / 256 < limit
+    let (low, high) = (word % 256, word / 256);
+    (low <= high && high < limit).then_some((low, high))
 }
 
 impl Registers {
@@ -38,16 +42,12 @@ impl Registers {
     pub fn power_on(size: Size) -> Registers
         ensures { result ≡ power_on size }
     {
-        let window = if size.width >= 1 && size.height >= 1 {
-            Some(Rect {
-                left: 0,
-                top: 0,
-                right: size.width - 1,
-                bottom: size.height - 1,
-            })
-        } else {
-            None
-        };
+        let window = (size.width >= 1 && size.height >= 1).then(|| Rect {
+            left: 0,
+            top: 0,
+            right: size.width - 1,
+            bottom: size.height - 1,
+        });
         let mode = Mode {
             down: true,
             right: true,
@@ -76,7 +76,7 @@ impl Registers {
     pub fn write(&mut self, word: u16)
         ensures { self.new ≡ written word self.old }
     {
-        if !self.asleep || self.index == 0x10 {
+        if !self.asleep || self.index == u8::from(Register::Power) {
             self.set(word);
         }
     }
@@ -98,18 +98,19 @@ impl Registers {
     fn set(&mut self, word: u16)
         ensures { self.new ≡ set_register self.old.index word self.old }
     {
-        match self.index {
-            0x03 => {
+        let parts = u32::from(word); // of a mask
+        match Register::try_from(self.index) {
+            Ok(Register::EntryMode) => {
                 self.mode = Mode::from_number((word / 8 % 8) as u8);
                 self.bgr = word / 4096 % 2 == 1;
             }
-            0x10 => self.asleep = word / 2 % 2 == 1,
-            0x21 => self.set_place(word),
-            0x23 => self.mask = mix(red(self.mask), word as u32 / 256, word as u32),
-            0x24 => self.mask = mix(word as u32, green(self.mask), blue(self.mask)),
-            0x44 => self.set_columns(word),
-            0x45 => self.set_rows(word),
-            _ => {}
+            Ok(Register::Power) => self.asleep = word / 2 % 2 == 1,
+            Ok(Register::Address) => self.set_place(word),
+            Ok(Register::GreenBlueMask) => self.mask = mix(red(self.mask), parts / 256, parts),
+            Ok(Register::RedMask) => self.mask = mix(parts, green(self.mask), blue(self.mask)),
+            Ok(Register::Columns) => self.set_columns(word),
+            Ok(Register::Rows) => self.set_rows(word),
+            Ok(Register::Colours) | Err(_) => {}
         }
     }
 
@@ -117,11 +118,9 @@ impl Registers {
     fn set_place(&mut self, word: u16)
         ensures { self.new ≡ set_place self.old.window word self.old }
     {
-        if let Some(window) = self.window {
-            let place = Address::new(word).place();
-            if window.holds(place) {
-                self.place = place;
-            }
+        let place = Place::from(Address::from(word));
+        if self.window.is_some_and(|window| window.holds(place)) {
+            self.place = place;
         }
     }
 
@@ -129,15 +128,10 @@ impl Registers {
     fn set_columns(&mut self, word: u16)
         ensures { self.new ≡ set_columns self.old.window word self.old }
     {
-        if let Some(old) = self.window {
-            if in_order(word, self.size.width) {
-                self.set_window(Rect {
-                    left: word % 256,
-                    top: old.top,
-                    right: word / 256,
-                    bottom: old.bottom,
-                });
-            }
+        if let Some(old) = self.window
+            && let Some((left, right)) = edges(word, self.size.width)
+        {
+            self.set_window(Rect { left, right, ..old });
         }
     }
 
@@ -145,15 +139,10 @@ impl Registers {
     fn set_rows(&mut self, word: u16)
         ensures { self.new ≡ set_rows self.old.window word self.old }
     {
-        if let Some(old) = self.window {
-            if in_order(word, self.size.height) {
-                self.set_window(Rect {
-                    left: old.left,
-                    top: word % 256,
-                    right: old.right,
-                    bottom: word / 256,
-                });
-            }
+        if let Some(old) = self.window
+            && let Some((top, bottom)) = edges(word, self.size.height)
+        {
+            self.set_window(Rect { top, bottom, ..old });
         }
     }
 

@@ -1,10 +1,11 @@
 -- The formats of the 16-bit, the 8-bit and the serial link.
-use Rattle.std.specs.Prelude.{ℕ, ◌+◌, ◌%◌, Bool, true, false, cond, ◌||◌, List, [], ◌∷◌, Some, None, Option, ◌==◌}
+use Rattle.std.specs.Prelude.{ℕ, ◌+◌, ◌*◌, ◌%◌, Bool, true, false, if◌then◌else◌, ◌||◌, List, [], ◌∷◌, Some, None, Option, ◌==◌}
 use Rattle.pixel.specs.Colours.{lengthened, shortened}
 use Rattle.link.specs.declared.Item.{Item}
 use Rattle.link.specs.declared.Item.TheVariants.{Index, Word, Colour}
 use Rattle.link.specs.Items.{index_word, item_of, lower, select_level, upper, word_of}
-use Rattle.link.specs.Formats.{Format, Taken, holds_half, taken}
+use Rattle.link.specs.declared.Taken.{Taken}
+use Rattle.link.specs.Formats.{Format, holds_half, taken}
 use Rattle.short_links.specs.declared.serial.Heard.{Heard}
 use Rattle.short_links.specs.declared.serial.Heard.TheVariants.{Nothing, Start, Half}
 use Rattle.short_links.specs.declared.serial.SerialId.{SerialId}
@@ -28,8 +29,6 @@ short_item high is_22h v = item_of high is_22h v (lengthened v)
 abbrev pub format_16 : Format ℕ
 format_16 = record {
   beats = λ i. short_word i ∷ [];
-  word_beats = 1;
-  colour_beats = 1;
   wide = λ b. false;
   holds = λ held t. [];
   gives = λ is_22h held t. Some (short_item t.rs is_22h t.beat);
@@ -48,8 +47,6 @@ gives_8 is_22h (u ∷ _) t = Some (short_item u.rs is_22h (word_of u.beat t.beat
 abbrev pub format_8 : Format ℕ
 format_8 = record {
   beats = λ i. bytes_of (short_word i);
-  word_beats = 2;
-  colour_beats = 2;
   wide = λ b. false;
   holds = holds_half;
   gives = gives_8;
@@ -59,10 +56,10 @@ format_8 = record {
 -- serial: a start byte is 70h + 4 × ID + 2 × register select
 abbrev pub id_number : SerialId → ℕ
 id_number Zero = 0
-id_number One = 4
+id_number One = 1
 
 abbrev pub start_byte : SerialId → Bool → ℕ
-start_byte id high = 112 + id_number id + cond high 2 0
+start_byte id high = 0x70 + 4 * id_number id + (if high then 2 else 0)
 
 -- a start byte of this link
 abbrev pub starts : SerialId → ℕ → Bool
@@ -80,7 +77,7 @@ held_serial (Half s u) = byte s ∷ byte u ∷ []
 -- the start byte stays held; after one that is not this link's nothing is taken
 abbrev pub holds_serial : SerialId → List (Taken ℕ) → Taken ℕ → List (Taken ℕ)
 holds_serial id [] t = byte t.beat ∷ []
-holds_serial id (s ∷ []) t = cond (starts id s.beat) (s ∷ byte t.beat ∷ []) (s ∷ [])
+holds_serial id (s ∷ []) t = if starts id s.beat then s ∷ byte t.beat ∷ [] else s ∷ []
 holds_serial id (s ∷ u ∷ _) t = s ∷ []
 
 -- the start byte's register select decides, for every pair of bytes after it
@@ -92,8 +89,6 @@ gives_serial id is_22h (s ∷ u ∷ _) t = Some (short_item (s.beat == start_byt
 abbrev pub format_serial : SerialId → Format ℕ
 format_serial id = record {
   beats = λ i. start_byte id (select_level i) ∷ bytes_of (short_word i);
-  word_beats = 3;
-  colour_beats = 3;
   wide = λ b. false;
   holds = holds_serial id;
   gives = gives_serial id;

@@ -1,15 +1,15 @@
 // The 8-bit link: two beats, upper first, the bytes of the word or the short colour.
 ghost use Rattle.std.specs.Prelude.{◌≡◌, None};
-ghost use Rattle.link.specs.Formats.{held_half};
+ghost use Rattle.link.specs.Formats.{held_half, state_of};
 ghost use Rattle.short_links.specs.ShortFormats.{format_8};
 ghost use Rattle.std.proofs.Common.{rules};
 
 use crate::{carried, item_from, word_of};
-use link::{Half, Item, Link, LinkFault};
+use link::{Item, Link, LinkFault, Taken};
 
 #[derive(Drop)]
 pub struct EightBit {
-    upper: Option<Half<u8>>,
+    upper: Option<Taken<u8>>,
 }
 
 impl EightBit {
@@ -23,27 +23,20 @@ impl EightBit {
 impl Link for EightBit {
     type Beat = u8;
 
+    ghost WORD_BEATS = { 2 };
+
     const WORD_BEATS: usize = 2;
+
+    ghost COLOUR_BEATS = { 2 };
 
     const COLOUR_BEATS: usize = 2;
 
-    ghost format = { λ _. format_8 };
-
-    ghost held = { λ s. held_half s.upper };
+    ghost state = { λ s. state_of format_8 (held_half s.upper) };
 
     ghost lawful = { Prim.search rules };
 
-    fn count(&self, item: Item) -> usize {
-        item.count(Self::WORD_BEATS, Self::COLOUR_BEATS)
-    }
-
     fn beat(&self, item: Item, n: usize) -> Option<u8> {
-        let word = word_of(item);
-        match n {
-            0 => Some((word / 256) as u8),
-            1 => Some((word % 256) as u8),
-            _ => None,
-        }
+        word_of(item).to_be_bytes().get(n).copied()
     }
 
     fn carry(&self, colour: u32) -> u32 {
@@ -55,15 +48,11 @@ impl Link for EightBit {
     }
 
     fn take(&mut self, index: u8, rs: bool, beat: u8) -> Result<Option<Item>, LinkFault> {
-        match self.upper.take() {
-            None => {
-                self.upper = Some(Half { rs, beat });
-                Ok(None)
-            }
-            Some(upper) => {
-                let word = upper.beat as u16 * 256 + beat as u16;
-                Ok(Some(item_from(upper.rs, index, word)))
-            }
-        }
+        let Some(upper) = self.upper.take() else {
+            self.upper = Some(Taken { rs, beat });
+            return Ok(None);
+        };
+        let word = u16::from_be_bytes([upper.beat, beat]);
+        Ok(Some(item_from(upper.rs, index, word)))
     }
 }

@@ -24,7 +24,7 @@ fn word_of(item: Item) -> u16
 
 // The item that a word arrives as.
 fn item_from(rs: bool, index: u8, word: u16) -> Item
-    ensures { result ≡ short_item rs (index == 34) word }
+    ensures { result ≡ short_item rs (index == 0x22) word }
 {
     Item::arriving(rs, index, word, lengthen(word))
 }

@@ -1,5 +1,6 @@
 // The serial link: a start byte, then two bytes to an item, as on the 8-bit link.
 ghost use Rattle.std.specs.Prelude.{◌≡◌};
+ghost use Rattle.link.specs.Formats.{state_of};
 ghost use Rattle.short_links.specs.ShortFormats.{format_serial, held_serial, start_byte};
 ghost use Rattle.short_links.specs.declared.serial.Heard.TheVariants.{Nothing};
 ghost use Rattle.std.proofs.Common.{rules};
@@ -8,13 +9,14 @@ use crate::{carried, item_from, word_of};
 use link::{Item, Link, LinkFault};
 
 // Which of two controllers on one line this is.
-#[derive(Clone, Copy)]
+#[derive(Clone, Copy, Debug, PartialEq, Eq, Hash)]
 pub enum SerialId {
-    Zero,
-    One,
+    Zero = 0,
+    One = 1,
 }
 
-// The bytes since the last select: none, a start byte, or a start byte and an item's upper byte.
+// The bytes since the last select: none, a start byte, or a start byte and an item's upper byte. No option of an option: it
+// would have no names for the three.
 #[derive(Clone, Copy)]
 enum Heard {
     Nothing,
@@ -32,16 +34,13 @@ pub struct Serial {
 fn start(id: SerialId, rs: bool) -> u8
     ensures { result ≡ start_byte id rs }
 {
-    let id = match id {
-        SerialId::Zero => 0,
-        SerialId::One => 4,
-    };
-    0x70 + id + if rs { 2 } else { 0 }
+    0x70 + 4 * (id as u8) + 2 * u8::from(rs)
 }
 
 impl Serial {
     pub fn new(id: SerialId) -> Serial
-        ensures { (result.id ≡ id) × (result.heard ≡ Nothing) }
+        ensures id { result.id ≡ id }
+        ensures heard { result.heard ≡ Nothing }
     {
         Serial {
             id,
@@ -53,28 +52,22 @@ impl Serial {
 impl Link for Serial {
     type Beat = u8;
 
+    ghost WORD_BEATS = { 3 };
+
     const WORD_BEATS: usize = 3;
+
+    ghost COLOUR_BEATS = { 3 };
 
     const COLOUR_BEATS: usize = 3;
 
-    ghost format = { λ s. format_serial s.id };
-
-    ghost held = { λ s. held_serial s.heard };
+    ghost state = { λ s. state_of (format_serial s.id) (held_serial s.heard) };
 
     ghost lawful = { Prim.search rules };
 
-    fn count(&self, item: Item) -> usize {
-        item.count(Self::WORD_BEATS, Self::COLOUR_BEATS)
-    }
-
     fn beat(&self, item: Item, n: usize) -> Option<u8> {
-        let word = word_of(item);
-        match n {
-            0 => Some(start(self.id, item.level())),
-            1 => Some((word / 256) as u8),
-            2 => Some((word % 256) as u8),
-            _ => None,
-        }
+        let first = start(self.id, item.level());
+        let [upper, lower] = word_of(item).to_be_bytes();
+        [first, upper, lower].get(n).copied()
     }
 
     fn carry(&self, colour: u32) -> u32 {
@@ -101,7 +94,7 @@ impl Link for Serial {
             Heard::Half(first, upper) => {
                 self.heard = Heard::Start(first);
                 let rs = first == start(self.id, true);
-                let word = upper as u16 * 256 + beat as u16;
+                let word = u16::from_be_bytes([upper, beat]);
                 Ok(Some(item_from(rs, index, word)))
             }
         }

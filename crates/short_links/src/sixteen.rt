@@ -1,5 +1,6 @@
 // The 16-bit link: one beat, the word or the short colour.
 ghost use Rattle.std.specs.Prelude.{[]};
+ghost use Rattle.link.specs.Formats.{state_of};
 ghost use Rattle.short_links.specs.ShortFormats.{format_16};
 ghost use Rattle.std.proofs.Common.{rules};
 
@@ -12,22 +13,20 @@ pub struct SixteenBit;
 impl Link for SixteenBit {
     type Beat = u16;
 
+    ghost WORD_BEATS = { 1 };
+
     const WORD_BEATS: usize = 1;
+
+    ghost COLOUR_BEATS = { 1 };
 
     const COLOUR_BEATS: usize = 1;
 
-    ghost format = { λ _. format_16 };
-
-    ghost held = { λ _. [] };
+    ghost state = { λ _. state_of format_16 [] };
 
     ghost lawful = { Prim.search rules };
 
-    fn count(&self, item: Item) -> usize {
-        item.count(Self::WORD_BEATS, Self::COLOUR_BEATS)
-    }
-
     fn beat(&self, item: Item, n: usize) -> Option<u16> {
-        if n == 0 { Some(word_of(item)) } else { None }
+        [word_of(item)].get(n).copied()
     }
 
     fn carry(&self, colour: u32) -> u32 {

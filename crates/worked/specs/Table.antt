@@ -1,5 +1,5 @@
 -- Cases worked by hand, as one table.
-use Rattle.std.specs.Prelude.{◌≡◌, [], ◌∷◌}
+use Rattle.std.specs.Prelude.{◌≡◌, [], ◌∷◌, map}
 use Rattle.pixel.specs.declared.rect.Rect.{Rect}
 use Rattle.pixel.specs.Colours.{met}
 use Rattle.pixel.specs.Rects.{place_at}
@@ -8,6 +8,9 @@ use Rattle.link.specs.declared.Item.TheVariants.{Index, Word, Colour}
 use Rattle.full_links.specs.FullFormats.{format_18, format_9}
 use Rattle.short_links.specs.ShortFormats.{format_8, format_serial}
 use Rattle.short_links.specs.declared.serial.SerialId.TheVariants.{Zero, One}
+use Rattle.glass.specs.declared.GlassFault.TheVariants.{Asleep, Window, Outside, Unseen, UnknownMode}
+use Rattle.glass.specs.declared.GlassFault.TheVariants as fault
+use Rattle.glass.specs.Faults.{fault_number}
 
 -- the window from (1, 0) to (2, 1)
 abbrev pub small_window : Rect
@@ -30,3 +33,5 @@ pub record Table : Type 0 where
   pub step_seven : stepped small_window (mode_of 7) (place_at 1 1) ≡ place_at 2 0
   -- mask 3F000h, cell 3F000h, colour 0003Fh
   pub masked_red : met 0x3f000 0x3f000 0x0003f ≡ 0x3f03f
+  -- a glass's refusals by their numbers: asleep, window, place outside, colour, look outside, mode
+  pub refusals : map fault_number (Asleep ∷ Window ∷ Outside ∷ fault.Colour ∷ Unseen ∷ UnknownMode ∷ []) ≡ 2 ∷ 3 ∷ 4 ∷ 5 ∷ 6 ∷ 15 ∷ []

@@ -12,7 +12,7 @@ use pixel::rect::{Place, Rect};
 use short_links::eight::EightBit;
 
 // The cases that the code is run on: white over the 8-bit link, one step in mode 6 and in mode 7, and a mask.
-#[derive(Clone, Copy)]
+#[derive(Clone, Copy, Debug, PartialEq, Eq, Hash)]
 pub struct Cases {
     pub white: u32,
     pub six: Place,

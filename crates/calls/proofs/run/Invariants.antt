@@ -5,7 +5,8 @@ use Rattle.calls.proofs.run.Given as goal
 
 -- the calls that are left lead to where all of them lead
 abbrev pub invariant-loop-step : goal.invariant-loop-step
-invariant-loop-step g l =
-    g.G.Glass.reached l.glass
-    × Same (all_did (drop l.step-index l.steps) (g.G.Glass.means l.glass)) (all_did l.steps (g.G.Glass.means l.initial.glass))
-    × ((l.told && as_told (drop l.step-index l.steps) (g.G.Glass.means l.glass)) ≡ as_told l.steps (g.G.Glass.means l.initial.glass))
+invariant-loop-step g l = record {
+  stays : g.G.Glass.reached l.glass;
+  left : Same (all_did (drop l.step-index l.steps) (g.G.Glass.means l.glass)) (all_did l.steps (g.G.Glass.means l.initial.glass));
+  told : (l.told && as_told (drop l.step-index l.steps) (g.G.Glass.means l.glass)) ≡ as_told l.steps (g.G.Glass.means l.initial.glass);
+}

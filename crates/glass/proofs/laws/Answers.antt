@@ -1,27 +1,13 @@
-use Rattle.std.proofs.Common.{◌≡◌, ℕ, cond, eqb, sym, refl, ap, ◌∙◌}
-use Rattle.glass.specs.declared.GlassFault.{GlassFault}
-use Rattle.glass.specs.declared.GlassFault.TheVariants.{Asleep, Window, Outside, Colour, Unseen, UnknownMode}
-use Rattle.glass.specs.Faults.{fault_number}
+use Rattle.std.proofs.Common.{arith}
+use Rattle.std.proofs.lemmas.Bool.Decides.{nat_tests}
 use Rattle.glass.proofs.Alike.{frame_answers, frame_same, go_answers, go_same, ink_answers, ink_same, look_answers, sleep_same}
 use Rattle.glass.proofs.Keeps.{frame_keeps, go_keeps, ink_elsewhere, ink_keeps, ink_there, no_ink, nowhere, sleep_keeps}
 use Rattle.glass.proofs.Sames.{possible_stands, same_itself, same_joined, same_turned}
 use Rattle.glass.proofs.laws.Goals as goal
 
--- the fault of a number
-abbrev fault_of : ℕ → GlassFault
-fault_of n = cond (eqb n 2) Asleep (cond (eqb n 3) Window (cond (eqb n 4) Outside (cond (eqb n 5) Colour (cond (eqb n 6) Unseen UnknownMode))))
-
-fault_back : (e : GlassFault) → fault_of (fault_number e) ≡ e
-fault_back Asleep = refl
-fault_back Window = refl
-fault_back Outside = refl
-fault_back Colour = refl
-fault_back Unseen = refl
-fault_back UnknownMode = refl
-
 pub returns : goal.returns
 returns c = record {
-  known = λ e f h. sym (fault_back e) ∙ ap fault_of h ∙ fault_back f;
+  known = λ e f h. grind (arith, nat_tests);
   itself = same_itself;
   turned = same_turned;
   joined = same_joined;

@@ -1,8 +1,6 @@
-use Rattle.std.proofs.Common.{Some, refl}
-use Rattle.driver.proofs.Driven.{driver_of, frame_driven}
+use Rattle.commands.proofs.Done.{frame_done}
+use Rattle.driver.proofs.Driven.{drove}
 use Rattle.driver.proofs.Driver.aim.Goals as goal
 
 pub returns : goal.returns
-returns g c =
-    let d = frame_driven g.L.Link.format g.L.Link.held g.M.CellMemory.cells c.args.self.now (driver_of c.send_frame.new.chip (Some c.args.rect)) c.args.rect c.from_number.result c.args.mode c.args.mask c.from_number.ensures c.send_frame.ensures refl c.requires.taken c.requires.reached in
-    record { stays = d.stays; after = d.after; format = d.same_format; beats = d.beats }
+returns g c = drove (rw c.from_number.ensures at c.send_frame.ensures) (frame_done _ _ _ c.requires.reached c.args.rect c.args.mode c.args.mask c.requires.taken)

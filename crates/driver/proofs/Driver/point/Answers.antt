@@ -1,16 +1,13 @@
-use Rattle.std.proofs.Common.{is_some, refl, ap}
-use Rattle.pixel.specs.Addresses.{place_of}
-use Rattle.commands.specs.Commands.{go_items}
-use Rattle.driver.proofs.Driven.{addressed, driver_of, go_driven, go_items_of}
+use Rattle.std.proofs.Common.{◌+◌, ◌*◌, ap, arith}
+use Rattle.std.proofs.lemmas.Bool.Decides.{nat_tests}
+use Rattle.pixel.proofs.Places.{address_back}
+use Rattle.commands.proofs.Done.{go_done, narrow}
+use Rattle.driver.proofs.Driven.{drove}
 use Rattle.driver.proofs.Driver.point.Goals as goal
 
+-- every place of a window has an address
 pub unwrap-requires : goal.unwrap-requires
-unwrap-requires g c = ap is_some (addressed g.L.Link.format g.L.Link.held g.M.CellMemory.cells c.args.self.now c.args.self.now c.args.window c.args.place c.of.result c.of.ensures c.requires.taken c.requires.reached)
+unwrap-requires g c = let n = narrow _ _ c.requires.reached c.args.window c.args.place c.requires.taken.window c.requires.taken.within in grind (arith, nat_tests)
 
 pub returns : goal.returns
-returns g c =
-    let s = c.args.self.now in
-    let t = driver_of c.send_go.new.chip s.window in
-    let items = go_items_of g.L.Link.format g.L.Link.held g.M.CellMemory.cells s t c.args.place c.of.result c.unwrap.result c.of.ensures c.unwrap.ensures in
-    let d = go_driven g.L.Link.format g.L.Link.held g.M.CellMemory.cells s t c.args.window c.args.place (go_items (place_of c.unwrap.result)) items c.send_go.ensures refl c.requires.taken c.requires.reached in
-    record { stays = d.stays; after = d.after; format = d.same_format; beats = d.beats }
+returns g c = drove (rw (ap (λ p. p.y * 256 + p.x) (address_back c.args.place c.unwrap.result cc)) at c.send_go.ensures) (go_done _ _ _ c.requires.reached c.args.window c.args.place c.requires.taken)
