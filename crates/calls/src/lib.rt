@@ -1,4 +1,4 @@
-// Calls of a glass as values, so that one list of them can be given to many glasses.
+//! Calls of a glass as values, so that one list of them can be given to many glasses.
 #![tactic(auto)]
 
 ghost use Rattle.std.specs.Prelude.{◌≡◌, ◌==◌};
@@ -12,7 +12,7 @@ use pixel::rect::{Place, Rect};
 
 #[derive(Clone, Copy, Debug, PartialEq, Eq, Hash)]
 pub enum Call {
-    // as it is asked, with the mode's number
+    /// as it is asked, with the mode's number
     Frame { rect: Rect, mode: u8, mask: u32 },
     Go(Place),
     Ink(u32),
@@ -20,14 +20,15 @@ pub enum Call {
     Wake,
 }
 
-// A call, and how it should be answered.
+/// A call, and how it should be answered.
 #[derive(Clone, Copy, Debug, PartialEq, Eq, Hash)]
 pub struct Step {
     pub call: Call,
     pub answer: Result<(), GlassFault>,
 }
 
-// Gives a glass one call. Calls are values and no closures, since one list of them goes to glasses of many types.
+/// Gives a glass one call.
+// Calls are values and no closures, since one list of them goes to glasses of many types.
 pub fn perform<G: Glass>(glass: &mut G, call: Call) -> Result<(), GlassFault>
     requires { G.reached glass.old }
     ensures { Called G.reached G.means (call_number call) (called call) result glass.old glass.new }
@@ -47,7 +48,7 @@ pub fn perform<G: Glass>(glass: &mut G, call: Call) -> Result<(), GlassFault>
     }
 }
 
-// Gives a glass the calls of a list in order, the refused ones too, and tells whether each was answered as it should be.
+/// Gives a glass the calls of a list in order, the refused ones too, and tells whether each was answered as it should be.
 pub fn run<G: Glass>(glass: &mut G, steps: &[Step]) -> bool
     requires { G.reached glass.old }
     ensures stays { G.reached glass.new }

@@ -1,4 +1,4 @@
-// A test card, drawn over a link by registers and colours alone.
+//! A test card, drawn over a link by registers and colours alone.
 #![tactic(auto)]
 
 ghost use Rattle.std.specs.Prelude.{◌≡◌, ℕ, ◌-◌, ◌^◌, ◌<◌, min, length, slice_index};
@@ -43,14 +43,14 @@ const Y: Item = Item::Colour(0x3efc0);
 
 const W: Item = Item::Colour(0x3effe);
 
-// What was drawn over a link: the beats that it took, and the cells row by row.
+/// What was drawn over a link: the beats that it took, and the cells row by row.
 #[derive(Clone, Copy, Debug, PartialEq, Eq, Hash)]
 pub struct Card {
     pub beats: usize,
     pub cells: [u32; 32],
 }
 
-// Draws the card on a controller of 8 × 4 behind a link.
+/// Draws the card on a controller of 8 × 4 behind a link.
 pub fn draw<L: Link + Drop>(link: L) -> Card
     ensures beats { result.beats ≡ min (beats_of (L.state link).format card_items) (2 ^ 64 - 1) }
     ensures cells { result.cells ≡ card_cells (L.state link).format }
@@ -75,7 +75,8 @@ pub fn draw<L: Link + Drop>(link: L) -> Card
 // that the proof needs an induction of its own, beside which an edit of this code is no longer refused here.
 fn shown<L: Link, M: CellMemory>(chip: &Lgdp4522<L, M>) -> [u32; 32]
     ensures long { length result ≡ 32 }
-    ensures cells { (k : ℕ) → k < 32 → slice_index result k ≡ shown_at (wired L.state M.cells chip.now).chip k }
+    ensures cells { (k : ℕ) → k < 32 → slice_index result k ≡
+        shown_at (wired L.state M.cells chip.now).chip k }
 {
     let mut cells = [0; 32];
     for (k, cell) in cells.iter_mut().enumerate() {

@@ -1,4 +1,4 @@
-// The page that the test card's program prints.
+//! The page that the test card's program prints.
 ghost use Rattle.std.specs.Prelude.{◌≡◌, ◌↔◌, ◌++◌, IsTrue, IfOk};
 ghost use Rattle.std.specs.String.{string_bytes};
 ghost use Rattle.card.specs.Cards.{card_cells};
@@ -21,7 +21,10 @@ fn add_card<L: Link + Drop>(
     name: &str,
     link: L,
 ) -> Result<Card, AllocError>
-    ensures { IfOk result (λ card. (string_bytes text.new ≡ string_bytes text.old ++ card_text name.now (L.state link).format) × (card.cells ≡ card_cells (L.state link).format)) }
+    ensures { IfOk result
+        (λ card. (string_bytes text.new ≡
+        string_bytes text.old ++ card_text name.now (L.state link).format)
+        × (card.cells ≡ card_cells (L.state link).format)) }
 {
     let card = draw(link);
     writeln!(text, "{name} link, {} beats", card.beats)?;
@@ -47,7 +50,7 @@ fn closing(same: bool) -> &'static str
     }
 }
 
-// The card over each of the five links, and whether the five pictures agree.
+/// The card over each of the five links, and whether the five pictures agree.
 pub fn page(heap: Global) -> Result<String, AllocError>
     ensures { IfOk result (λ text. string_bytes text ≡ card_page) }
 {

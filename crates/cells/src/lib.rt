@@ -1,4 +1,4 @@
-// Cell memory: one number for each cell of a screen.
+//! Cell memory: one number for each cell of a screen.
 #![tactic(auto)]
 
 ghost use Rattle.std.specs.Prelude.{◌≡◌, ℕ, List, length, replicate, slice_index, slice_set};
@@ -17,20 +17,20 @@ pub trait CellMemory {
     fn len(&self) -> usize
         ensures { result ≡ length (cells self.now) };
 
-    // The number at an offset; 0 past the end.
+    /// The number at an offset; 0 past the end.
     fn get(&self, at: Offset) -> u32
         ensures { result ≡ slice_index (cells self.now) at.index };
 
-    // Past the end nothing changes.
+    /// Past the end nothing changes.
     fn put(&mut self, at: Offset, cell: u32)
         ensures { cells self.new ≡ slice_set (cells self.old) at.index cell };
 
-    // Sets every number to 0.
+    /// Sets every number to 0.
     fn clear(&mut self)
         ensures { cells self.new ≡ replicate (length (cells self.old)) 0 };
 }
 
-// Memory that somebody lends for as long as the screen is used.
+/// Memory that somebody lends for as long as the screen is used.
 #[derive(Drop)]
 pub struct Lent<'a> {
     cells: &'a mut [u32],
@@ -68,14 +68,15 @@ impl<'a> CellMemory for Lent<'a> {
     }
 }
 
-// A size that no screen here has, or memory that is not its width × height.
+/// A size that no screen here has, or memory that is not its width × height.
 #[derive(Clone, Copy, Debug, PartialEq, Eq, Hash)]
 pub enum SizeFault {
     Unfit = 7,
 }
 
 impl SizeFault {
-    // A refusal is told by its number, so the rule wants it; this one stands alone, as no layer found it.
+    /// Its number stands alone: no layer found it.
+    // A refusal is told by its number: so the rule wants it.
     pub fn number(self) -> u8
         ensures { result ≡ size_number self }
     {
@@ -83,8 +84,8 @@ impl SizeFault {
     }
 }
 
-// Whether memory serves a screen of a size: width 1 to 176, height 1 to 220, one number for each cell. Memory and size are
-// two parameters, here and below: a controller keeps its size among its registers.
+/// Whether memory serves a screen of a size: width 1 to 176, height 1 to 220, one number for each cell.
+// Memory and size are two parameters, here and below: a controller keeps its size among its registers.
 pub fn check<M: CellMemory>(memory: &M, size: Size) -> Result<(), SizeFault>
     ensures { result ≡ size_answer (fits_memory size (length (M.cells memory.now))) }
 {
@@ -98,8 +99,8 @@ pub fn check<M: CellMemory>(memory: &M, size: Size) -> Result<(), SizeFault>
     }
 }
 
-// Readies memory for a screen of a size: where `check` accepts both, every cell is 0 and the size is answered; else the
-// memory stays as it is, for a screen of 0 × 0.
+/// Readies memory for a screen of a size: where `check` accepts both, every cell is 0 and the size is answered; else the
+/// memory stays as it is, for a screen of 0 × 0.
 pub fn fit<M: CellMemory>(memory: &mut M, size: Size) -> Size
     ensures size { result ≡ fitted_size size (length (M.cells memory.old)) }
     ensures cells { M.cells memory.new ≡ fitted_cells size (M.cells memory.old) }
@@ -117,7 +118,7 @@ pub fn fit<M: CellMemory>(memory: &mut M, size: Size) -> Size
     }
 }
 
-// The number of the cell at a place; off the screen there is none.
+/// The number of the cell at a place; off the screen there is none.
 pub fn look<M: CellMemory>(memory: &M, size: Size, place: Place) -> Option<u32>
     ensures { result ≡ cell_in (M.cells memory.now) (offset_at size place) }
 {
@@ -125,9 +126,10 @@ pub fn look<M: CellMemory>(memory: &M, size: Size, place: Place) -> Option<u32>
     Some(memory.get(at))
 }
 
-// A colour meets the cell at a place under a mask; off the screen nothing changes.
+/// A colour meets the cell at a place under a mask; off the screen nothing changes.
 pub fn ink<M: CellMemory>(memory: &mut M, size: Size, place: Place, mask: u32, colour: u32)
-    ensures { M.cells memory.new ≡ memory_met mask colour (offset_at size place) (M.cells memory.old) }
+    ensures { M.cells memory.new ≡
+        memory_met mask colour (offset_at size place) (M.cells memory.old) }
 {
     if let Some(at) = place.offset(size) {
         let old = memory.get(at);

@@ -1,4 +1,4 @@
-// What a host sends for each call of a glass: registers, each as its index and its word, and then the index of colours.
+//! What a host sends for each call of a glass: registers, each as its index and its word, and then the index of colours.
 #![tactic(auto)]
 
 ghost use Rattle.std.specs.Prelude.{◌≡◌};
@@ -58,27 +58,31 @@ pub fn send_frame<L: Link, M: CellMemory>(
     mode: Mode,
     mask: u32,
 )
-    ensures { Went (frame_items rect mode mask) (wired L.state M.cells chip.old) (wired L.state M.cells chip.new) }
+    ensures { Went (frame_items rect mode mask) (wired L.state M.cells chip.old)
+        (wired L.state M.cells chip.new) }
 {
     send_all(chip, &framing(rect, mode, mask));
 }
 
-// The place (R21h), as an address.
+/// The place (R21h), as an address.
 pub fn send_go<L: Link, M: CellMemory>(chip: &mut Lgdp4522<L, M>, address: Address)
-    ensures { Went (go_items (place_of address)) (wired L.state M.cells chip.old) (wired L.state M.cells chip.new) }
+    ensures { Went (go_items (place_of address)) (wired L.state M.cells chip.old)
+        (wired L.state M.cells chip.new) }
 {
     send_all(chip, &setting(Register::Address, address.into()));
 }
 
 pub fn send_ink<L: Link, M: CellMemory>(chip: &mut Lgdp4522<L, M>, colour: u32)
-    ensures { Went (ink_items colour) (wired L.state M.cells chip.old) (wired L.state M.cells chip.new) }
+    ensures { Went (ink_items colour) (wired L.state M.cells chip.old)
+        (wired L.state M.cells chip.new) }
 {
     send_all(chip, &[Item::Colour(colour)]);
 }
 
-// Sleep or wake (R10h, bit 1).
+/// Sleep or wake (R10h, bit 1).
 pub fn send_sleep<L: Link, M: CellMemory>(chip: &mut Lgdp4522<L, M>, asleep: bool)
-    ensures { Went (sleep_items asleep) (wired L.state M.cells chip.old) (wired L.state M.cells chip.new) }
+    ensures { Went (sleep_items asleep) (wired L.state M.cells chip.old)
+        (wired L.state M.cells chip.new) }
 {
     let power = 2 * u16::from(asleep);
     send_all(chip, &setting(Register::Power, power));

@@ -5,7 +5,6 @@ use Rattle.link.specs.Formats.{State}
 use Rattle.registers.specs.Chip.{chip_of}
 use Rattle.lgdp4522.specs.Wired.{wired}
 use Rattle.host.specs.Sent.{Went}
-use Rattle.host.proofs.Arrive.{went-format}
 use Rattle.glass.specs.Panels.{Panel}
 use Rattle.commands.proofs.Done.{Done}
 use Rattle.driver.specs.declared.Driver.{Driver}
@@ -16,5 +15,5 @@ drove w d =
     let left = w.arrived d.taken in
     let memory = ap (λ c. c.memory) left in
     let registers = ap (λ c. c.registers) left in
-    let carried = ap (λ f. f.carried) (went-format w) in
+    let carried = ap (λ f. f.carried) w.same_format in
     record { stays = rw (memory, registers) d.stays; after = rw (memory, registers, carried) d.after; beats = w.beats }

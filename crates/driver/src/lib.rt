@@ -1,4 +1,4 @@
-// The controller on any link as a glass: each accepted call goes over the link as beats, and a refused one sends nothing.
+//! The controller on any link as a glass: each accepted call goes over the link as beats, and a refused one sends nothing.
 #![tactic(auto)]
 
 ghost use Rattle.std.specs.Prelude.{◌≡◌, true, false, length};
@@ -21,7 +21,8 @@ use pixel::address::Address;
 use pixel::mode::Mode;
 use pixel::rect::{Place, Rect, Size};
 
-// Generic over link and memory, which the controller holds by value.
+/// Generic over link and memory, which the controller holds by value.
+// No `impl Model`: its contracts speak of link and memory themselves.
 #[derive(Drop)]
 pub struct Driver<L: Link, M: CellMemory> {
     chip: Lgdp4522<L, M>,
@@ -30,11 +31,13 @@ pub struct Driver<L: Link, M: CellMemory> {
 }
 
 impl<L: Link, M: CellMemory> Driver<L, M> {
-    // A controller at power-on, every cell 0. Where `check` refuses size and memory it is one of 0 × 0, and the memory is untouched.
+    /// A controller at power-on, every cell 0. Where `check` refuses size and memory it is one of 0 × 0, and the memory is untouched.
     pub fn fit(link: L, memory: M, size: Size) -> Self
         ensures reached { DriverReached M.cells result }
-        ensures new { Same (driver_panel L.state M.cells result) (new_panel (fitted_size size (length (M.cells memory))) (L.state link).format.carried) }
-        ensures chip { wired L.state M.cells result.chip ≡ fitted (L.state link).format size (M.cells memory) }
+        ensures new { Same (driver_panel L.state M.cells result)
+            (new_panel (fitted_size size (length (M.cells memory))) (L.state link).format.carried) }
+        ensures chip { wired L.state M.cells result.chip ≡
+            fitted (L.state link).format size (M.cells memory) }
         ensures spared { SparedUnfit M.cells size memory result.chip.memory }
     {
         Driver {
@@ -47,7 +50,8 @@ impl<L: Link, M: CellMemory> Driver<L, M> {
     fn aim(&mut self, rect: Rect, mode: u8, mask: u32)
         requires reached { DriverReached M.cells self.old }
         requires taken { FrameTaken self.old.chip.registers.asleep self.old.chip.registers.size rect mode mask }
-        ensures { Drove L.state M.cells (frame_items rect (mode_of mode) mask) (framed rect mode mask) self.old self.new }
+        ensures { Drove L.state M.cells (frame_items rect (mode_of mode) mask)
+            (framed rect mode mask) self.old self.new }
     {
         send_frame(&mut self.chip, rect, Mode::from_number(mode), mask);
         self.window = Some(rect);
@@ -81,18 +85,23 @@ impl<L: Link, M: CellMemory> Driver<L, M> {
     }
 }
 
-// Beside what every glass promises, each call that sends says which beats it leaves its controller with.
+// Beside what every glass promises, each call that sends says which beats it leaves its controller with. That is a clause
+// of its own: with both in one record the goal of `frame` does not close without a proof file.
 impl<L: Link, M: CellMemory> Glass for Driver<L, M> {
     ghost means = { λ s. driver_panel L.state M.cells s };
 
     ghost reached = { λ s. DriverReached M.cells s };
 
-    ghost possible = { λ s z. possible_of s.window (L.state s.chip.link).format.carried (chip_of (M.cells s.chip.memory) s.chip.registers) (L.lawful s.chip.link).carried_fits z };
+    ghost possible = { λ s z. possible_of s.window (L.state s.chip.link).format.carried
+        (chip_of (M.cells s.chip.memory) s.chip.registers) (L.lawful s.chip.link).carried_fits z };
 
     fn frame(&mut self, rect: Rect, mode: u8, mask: u32) -> Result<(), GlassFault>
         requires { DriverReached M.cells self.old }
-        ensures call { Called (DriverReached M.cells) (driver_panel L.state M.cells) (frame_number rect mode mask) (framed rect mode mask) result self.old self.new }
-        ensures beats { wired L.state M.cells self.new.chip ≡ sent_by result (frame_items rect (mode_of mode) mask) (wired L.state M.cells self.old.chip) }
+        ensures call { Called (DriverReached M.cells) (driver_panel L.state M.cells)
+            (frame_number rect mode mask) (framed rect mode mask) result self.old self.new }
+        ensures beats { wired L.state M.cells self.new.chip ≡
+            sent_by result (frame_items rect (mode_of mode) mask)
+            (wired L.state M.cells self.old.chip) }
     {
         checks::frame(self.chip.asleep(), self.chip.size(), rect, mode, mask)?;
         self.aim(rect, mode, mask);
@@ -101,8 +110,10 @@ impl<L: Link, M: CellMemory> Glass for Driver<L, M> {
 
     fn go(&mut self, place: Place) -> Result<(), GlassFault>
         requires { DriverReached M.cells self.old }
-        ensures call { Called (DriverReached M.cells) (driver_panel L.state M.cells) (go_number place) (gone place) result self.old self.new }
-        ensures beats { wired L.state M.cells self.new.chip ≡ sent_by result (go_items place) (wired L.state M.cells self.old.chip) }
+        ensures call { Called (DriverReached M.cells) (driver_panel L.state M.cells)
+            (go_number place) (gone place) result self.old self.new }
+        ensures beats { wired L.state M.cells self.new.chip ≡
+            sent_by result (go_items place) (wired L.state M.cells self.old.chip) }
     {
         let window = checks::go(self.chip.asleep(), self.window, place)?;
         self.point(window, place);
@@ -111,8 +122,10 @@ impl<L: Link, M: CellMemory> Glass for Driver<L, M> {
 
     fn ink(&mut self, colour: u32) -> Result<(), GlassFault>
         requires { DriverReached M.cells self.old }
-        ensures call { Called (DriverReached M.cells) (driver_panel L.state M.cells) (ink_number colour) (inked colour) result self.old self.new }
-        ensures beats { wired L.state M.cells self.new.chip ≡ sent_by result (ink_items colour) (wired L.state M.cells self.old.chip) }
+        ensures call { Called (DriverReached M.cells) (driver_panel L.state M.cells)
+            (ink_number colour) (inked colour) result self.old self.new }
+        ensures beats { wired L.state M.cells self.new.chip ≡
+            sent_by result (ink_items colour) (wired L.state M.cells self.old.chip) }
     {
         let window = checks::ink(self.chip.asleep(), self.window, colour)?;
         self.land(window, colour);

@@ -1,4 +1,4 @@
-// The 18-bit link: one beat.
+//! The 18-bit link: one beat.
 ghost use Rattle.std.specs.Prelude.{[]};
 ghost use Rattle.link.specs.Formats.{state_of};
 ghost use Rattle.full_links.specs.FullFormats.{format_18};
@@ -8,7 +8,8 @@ use crate::{beat_of, carried, item_from};
 use link::{Item, Link, LinkFault};
 use pixel::colour::FULL;
 
-// A link of its own beside the 16-bit one, since each link names its beat and its counts: the two share no more than shape.
+/// The 18-bit link.
+// Beside the 16-bit one, since each link names its beat and its counts: the two share no more than shape.
 #[derive(Drop)]
 pub struct EighteenBit;
 

@@ -1,4 +1,4 @@
-// The links that carry every colour whole: 18-bit and 9-bit.
+//! The links that carry every colour whole: 18-bit and 9-bit.
 #![tactic(auto)]
 
 ghost use Rattle.std.specs.Prelude.{◌≡◌, ◌==◌};

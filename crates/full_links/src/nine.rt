@@ -1,4 +1,4 @@
-// The 9-bit link: two beats, upper first, the nine bits of each half.
+//! The 9-bit link: two beats, upper first, the nine bits of each half.
 ghost use Rattle.std.specs.Prelude.{◌≡◌, None};
 ghost use Rattle.link.specs.Formats.{held_half, state_of};
 ghost use Rattle.full_links.specs.FullFormats.{format_9};
@@ -7,8 +7,9 @@ ghost use Rattle.std.proofs.Common.{rules};
 use crate::{beat_of, carried, item_from};
 use link::{Item, Link, LinkFault, Taken};
 
-// A link of its own beside the 8-bit one, since each link names its beat and its counts: what both do with a first beat is
-// one `take` of an option.
+/// The 9-bit link, and the first beat of two, if it came.
+// Beside the 8-bit one, since each link names its beat and its counts: what both do with a first beat is one `take` of an
+// option.
 #[derive(Drop)]
 pub struct NineBit {
     upper: Option<Taken<u16>>,

@@ -1,4 +1,4 @@
-// A glass: a screen as calls see it, cells that colours land on through one window and one place.
+//! A glass: a screen as calls see it, cells that colours land on through one window and one place.
 #![tactic(auto)]
 
 ghost use Rattle.std.specs.Prelude.{◌≡◌, true, false, IfOk};
@@ -13,24 +13,24 @@ use pixel::mode::UnknownMode;
 use pixel::rect::{Place, Rect, Size};
 use refusal::Layer;
 
-// Why a glass refuses a call.
+/// Why a glass refuses a call.
 #[derive(Clone, Copy, Debug, PartialEq, Eq, Hash)]
 pub enum GlassFault {
     Asleep = 2,
-    // a rectangle that is not inside or out of order, or ink without a window
+    /// a rectangle that is not inside or out of order, or ink without a window
     Window = 3,
-    // a place outside the window
+    /// a place outside the window
     Outside = 4,
-    // a colour or a mask above 3FFFFh
+    /// a colour or a mask above 3FFFFh
     Colour = 5,
-    // a look outside the glass
+    /// a look outside the glass
     Unseen = 6,
-    // a mode above 7
+    /// a mode above 7
     UnknownMode = 15,
 }
 
 impl GlassFault {
-    // A refusal is told by its number and its layer: so the rule wants it.
+    // A refusal is told by its number and its layer: so the rule wants it. Each enum has its own; nothing is generic over them.
     pub fn number(self) -> u8
         ensures { result ≡ fault_number self }
     {
@@ -54,13 +54,13 @@ impl From<UnknownMode> for GlassFault {
     }
 }
 
-// What holds of the definitions that the calls' contracts cite. There is nothing to run: the check asks for the proof.
+/// What holds of the definitions that the calls' contracts cite. There is nothing to run: the check asks for the proof.
 pub fn laws()
     ensures { Laws }
 {}
 
-// Every call is told by its answer's number (0 if accepted), by the whole panel that it leaves, and, where it is refused,
-// by the glass itself, which is then the same value as before. A question leaves everything.
+/// Every call is told by its answer's number (0 if accepted), by the whole panel that it leaves, and, where it is refused,
+/// by the glass itself, which is then the same value as before. A question leaves everything.
 pub trait Glass {
     // what the glass is to its callers: size, picture, window, place, mode, mask, wakefulness, and the colour that each
     // colour is carried as
@@ -70,29 +70,32 @@ pub trait Glass {
     // may then rely on what it set below
     ghost reached: { Self → Type 0 };
 
-    // Sets window, mode and mask, and the place to the start corner. The mode comes as a number, as the rule has it: one above
-    // 7 is refused here, after the rectangle. So the three that are asked and the three that are set are not one struct.
+    /// Sets window, mode and mask, and the place to the start corner.
+    // The mode comes as a number, as the rule has it: one above 7 is refused here, after the rectangle. So the three that are
+    // asked and the three that are set are not one struct.
     fn frame(&mut self, rect: Rect, mode: u8, mask: u32) -> Result<(), GlassFault>
         requires { reached self.old }
-        ensures { Called reached means (frame_number rect mode mask) (framed rect mode mask) result self.old self.new };
+        ensures { Called reached means (frame_number rect mode mask)
+            (framed rect mode mask) result self.old self.new };
 
-    // Sets the place.
+    /// Sets the place.
     fn go(&mut self, place: Place) -> Result<(), GlassFault>
         requires { reached self.old }
         ensures { Called reached means (go_number place) (gone place) result self.old self.new };
 
-    // The colour, as carried, meets the cell at the place under the mask; the place steps.
+    /// The colour, as carried, meets the cell at the place under the mask; the place steps.
     fn ink(&mut self, colour: u32) -> Result<(), GlassFault>
         requires { reached self.old }
-        ensures { Called reached means (ink_number colour) (inked colour) result self.old self.new };
+        ensures { Called reached means (ink_number colour)
+            (inked colour) result self.old self.new };
 
-    // The cell at a place, also asleep.
+    /// The cell at a place, also asleep.
     fn look(&self, place: Place) -> Result<u32, GlassFault>
         requires { reached self.now }
         ensures answer { answered result ≡ look_number place (means self.now) }
         ensures value { IfOk result (λ c. c ≡ (means self.now).cell place) };
 
-    // The colour that a colour is carried as, also asleep.
+    /// The colour that a colour is carried as, also asleep.
     fn shade(&self, colour: u32) -> Result<u32, GlassFault>
         requires { reached self.now }
         ensures answer { answered result ≡ shade_number colour }

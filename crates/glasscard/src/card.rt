@@ -1,5 +1,5 @@
-// The test card by calls of a glass, and a chain of calls that has every refusal of frame, go and ink in it; for a glass of
-// 8 × 4, each call with how it should be answered.
+//! The test card by calls of a glass, and a chain of calls that has every refusal of frame, go and ink in it; for a glass of
+//! 8 × 4, each call with how it should be answered.
 use calls::{Call, Step};
 use glass::GlassFault;
 use pixel::rect::{Place, Rect};

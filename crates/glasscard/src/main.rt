@@ -1,5 +1,5 @@
-// Gives the plain glass and the controller behind each of the five links one chain of calls and then the test card, and
-// prints the pictures, whether they agree as carried, and whether the six glasses answer alike.
+//! Gives the plain glass and the controller behind each of the five links one chain of calls and then the test card, and
+//! prints the pictures, whether they agree as carried, and whether the six glasses answer alike.
 #![tactic(auto)]
 
 use calls::run;

@@ -57,7 +57,7 @@ items_arrive w c f (i ∷ is) t law same e =
 
 -- what was sent, went
 pub went : {B : Type 0} (w c : ℕ) (is : List Item) (s t : Wired B) → Lawful w c s.link.format → t ≡ after_all (signals s.link.format is) s → Went is s t
-went w c is s t law e = record { beats = e; arrived = λ x. ap (λ v. v.chip) e ∙ items_arrive w c s.link.format is s law refl x }
+went w c is s t law e = record { same_format = ap (λ v. v.link.format) e ∙ format_kept (signals s.link.format is) s; beats = e; arrived = λ x. ap (λ v. v.chip) e ∙ items_arrive w c s.link.format is s law refl x }
 
 -- one turn of the loop over beats
 pub beat_again : {B : Type 0} (bs : List B) (high : Bool) (n : ℕ) (b : B) (s s2 e : Wired B) → n < length bs → Some b ≡ slice_get bs n → s2 ≡ after_beat (taken high b) s → after_all (beat_signals high (drop n bs)) s ≡ e → after_all (beat_signals high (drop (n + 1) bs)) s2 ≡ e
@@ -94,7 +94,3 @@ count_again f v is n d m l k e same h el ek inv =
 -- and its end
 pub items_sent : {B : Type 0} (w c : ℕ) (is : List Item) (n : ℕ) (s0 s : Wired B) → Lawful w c s0.link.format → length is ≤ n → after_all (signals s0.link.format (drop n is)) s ≡ after_all (signals s0.link.format is) s0 → Went is s0 s
 items_sent w c is n s0 s law h inv = went w c is s0 s law (sym (at_drop_all (λ l. after_all (signals s0.link.format l) s) is n h) ∙ inv)
-
--- what went changed no format
-pub went-format : {B : Type 0} {is : List Item} {s t : Wired B} → Went is s t → t.link.format ≡ s.link.format
-went-format {is = is} {s = s} z = ap (λ w. w.link.format) z.beats ∙ format_kept (signals s.link.format is) s

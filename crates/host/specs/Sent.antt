@@ -49,5 +49,6 @@ sent is s = after_all (signals s.link.format is) s
 
 -- items went over a link, from s to t; those that the controller expects it obeys
 pub record Went {B : Type 0} (is : List Item) (s t : Wired B) : Type 0 where
+  pub same_format : t.link.format ≡ s.link.format
   pub beats : t ≡ sent is s
   pub arrived : expected s.chip.registers.index is ≡ true → t.chip ≡ all_obeyed s.link.format is s.chip

@@ -1,4 +1,4 @@
-// The LGDP4522: registers and cell memory behind a link.
+//! The LGDP4522: registers and cell memory behind a link.
 #![tactic(auto)]
 
 ghost use Rattle.std.specs.Prelude.{◌≡◌};
@@ -13,12 +13,13 @@ use link::{Item, Link, LinkFault};
 use pixel::rect::{Place, Size};
 use registers::Registers;
 
-// A fitted controller is sound, and stays so. There is nothing to run: the check asks for the proof.
+/// A fitted controller is sound, and stays so. There is nothing to run: the check asks for the proof.
 pub fn laws()
     ensures { Laws }
 {}
 
-// Generic over its link and its cell memory, both held by value.
+/// Generic over its link and its cell memory, both held by value.
+// No `impl Model`: its contracts speak of link and memory themselves.
 #[derive(Drop)]
 pub struct Lgdp4522<L, M> {
     link: L,
@@ -27,9 +28,10 @@ pub struct Lgdp4522<L, M> {
 }
 
 impl<L: Link, M: CellMemory> Lgdp4522<L, M> {
-    // A controller at power-on, every cell 0. Where `check` refuses size and memory it is one of 0 × 0, and the memory is untouched.
+    /// A controller at power-on, every cell 0. Where `check` refuses size and memory it is one of 0 × 0, and the memory is untouched.
     pub fn fit(mut link: L, mut memory: M, size: Size) -> Self
-        ensures fitted { wired L.state M.cells result ≡ fitted (L.state link).format size (M.cells memory) }
+        ensures fitted { wired L.state M.cells result ≡
+            fitted (L.state link).format size (M.cells memory) }
         ensures spared { SparedUnfit M.cells size memory result.memory }
     {
         link.select();
@@ -41,17 +43,18 @@ impl<L: Link, M: CellMemory> Lgdp4522<L, M> {
         }
     }
 
-    // A falling chip select: a half item is dropped.
+    /// A falling chip select: a half item is dropped.
     pub fn select(&mut self)
         ensures { wired L.state M.cells self.new ≡ selected (wired L.state M.cells self.old) }
     {
         self.link.select();
     }
 
-    // One beat under a level of register select. One wider than the link is refused and changes nothing.
+    /// One beat under a level of register select. One wider than the link is refused and changes nothing.
     pub fn take(&mut self, rs: bool, beat: L::Beat) -> Result<(), LinkFault>
         ensures answer { result ≡ beat_answer (L.state self.old.link).format beat }
-        ensures after { wired L.state M.cells self.new ≡ after_beat (taken rs beat) (wired L.state M.cells self.old) }
+        ensures after { wired L.state M.cells self.new ≡
+            after_beat (taken rs beat) (wired L.state M.cells self.old) }
     {
         if let Some(item) = self.link.take(self.registers.index, rs, beat)? {
             self.obey(item);
@@ -59,7 +62,7 @@ impl<L: Link, M: CellMemory> Lgdp4522<L, M> {
         Ok(())
     }
 
-    // The colour of a cell; off the screen there is none.
+    /// The colour of a cell; off the screen there is none.
     pub fn cell(&self, place: Place) -> Option<u32>
         ensures { result ≡ cell_at (wired L.state M.cells self.now).chip place }
     {
@@ -78,7 +81,7 @@ impl<L: Link, M: CellMemory> Lgdp4522<L, M> {
         self.registers.asleep
     }
 
-    // The link, for the host that sends over it.
+    /// The link, for the host that sends over it.
     pub fn link(&self) -> &L
         ensures { result.now ≡ self.now.link }
     {
@@ -87,7 +90,8 @@ impl<L: Link, M: CellMemory> Lgdp4522<L, M> {
 
     fn obey(&mut self, item: Item)
         ensures link { self.new.link ≡ self.old.link }
-        ensures after { chip_of (M.cells self.new.memory) self.new.registers ≡ obeyed item (chip_of (M.cells self.old.memory) self.old.registers) }
+        ensures after { chip_of (M.cells self.new.memory) self.new.registers ≡
+            obeyed item (chip_of (M.cells self.old.memory) self.old.registers) }
     {
         match item {
             Item::Index(index) => self.registers.point(index),
@@ -103,7 +107,9 @@ impl<L: Link, M: CellMemory> Lgdp4522<L, M> {
     // A colour meets the cell at the place, and the place steps.
     fn ink(&mut self, colour: u32)
         ensures link { self.new.link ≡ self.old.link }
-        ensures after { chip_of (M.cells self.new.memory) self.new.registers ≡ coloured self.old.registers.window colour (chip_of (M.cells self.old.memory) self.old.registers) }
+        ensures after { chip_of (M.cells self.new.memory) self.new.registers ≡
+            coloured self.old.registers.window colour
+            (chip_of (M.cells self.old.memory) self.old.registers) }
     {
         if let Some(window) = self.registers.window {
             let at = self.registers;

@@ -1,4 +1,4 @@
-// Tests with beats that no host of ours sends: what each link and the controller make of them.
+//! Tests with beats that no host of ours sends: what each link and the controller make of them.
 #![tactic(auto)]
 
 #[cfg(test)]

@@ -1,4 +1,4 @@
-// A picture as text: one letter for each cell, one line for each row.
+//! A picture as text: one letter for each cell, one line for each row.
 #![tactic(auto)]
 
 ghost use Rattle.std.specs.Prelude.{◌≡◌, ◌++◌, map, IfOk, OnOk};
@@ -11,7 +11,7 @@ use std::alloc::{AllocError, Global};
 // By 4 × red's top bit + 2 × green's + blue's.
 const LETTERS: [char; 8] = ['K', 'B', 'G', 'C', 'R', 'M', 'Y', 'W'];
 
-// The letter of a colour: K B G C R M Y W.
+/// The letter of a colour: K B G C R M Y W.
 pub fn letter(colour: u32) -> char
     ensures { result ≡ letter_of colour }
 {
@@ -20,12 +20,13 @@ pub fn letter(colour: u32) -> char
 
 // Adds the letters of some cells.
 fn add_letters(text: &mut String, cells: &[u32]) -> Result<(), AllocError>
-    ensures { OnOk result (string_bytes text.new ≡ string_bytes text.old ++ map letter_of cells.now) }
+    ensures { OnOk result
+        (string_bytes text.new ≡ string_bytes text.old ++ map letter_of cells.now) }
 {
     text.extend(cells.iter().map(|cell| letter(*cell)))
 }
 
-// The cells' letters, and a line end after each `width` of them; a width of 0 counts as 1.
+/// The cells' letters, and a line end after each `width` of them; a width of 0 counts as 1.
 #[tactic(auto, using(crate::proofs::Lines::by_rows))]
 pub fn rows(heap: Global, cells: &[u32], width: usize) -> Result<String, AllocError>
     ensures { IfOk result (λ text. string_bytes text ≡ lettered width width cells.now) }

@@ -1,16 +1,16 @@
-// Addresses as the controller counts them, offsets as memory does, and the one conversion between them.
+//! Addresses as the controller counts them, offsets as memory does, and the one conversion between them.
 ghost use Rattle.std.specs.Prelude.{◌≡◌};
 ghost use Rattle.pixel.specs.Addresses.{address_at, address_of, offset_at, offset_of, place_of};
 
 use crate::rect::{Place, Size};
 
-// A cell's address AD: row × 256 + column.
+/// A cell's address AD: row × 256 + column.
 #[derive(Clone, Copy, Debug, PartialEq, Eq, Hash)]
 pub struct Address {
     number: u16,
 }
 
-// Where a cell lies in memory: row × width + column. Only `Address::offset` makes one.
+/// Where a cell lies in memory: row × width + column. Only `Address::offset` makes one.
 #[derive(Clone, Copy, Debug, PartialEq, Eq, Hash)]
 pub struct Offset {
     index: usize,
@@ -45,8 +45,8 @@ impl From<Address> for Place {
 }
 
 impl Address {
-    // The address of a place; one beyond column or row 255 has none. No `TryFrom`: there is no more to tell than that, and
-    // `?` on an option reads plainer than an error that is thrown away.
+    /// The address of a place; one beyond column or row 255 has none.
+    // No `TryFrom`: there is no more to tell than that, and `?` on an option reads plainer than an error that is thrown away.
     pub fn of(place: Place) -> Option<Address>
         ensures { result ≡ address_of place }
     {
@@ -59,7 +59,7 @@ impl Address {
         }
     }
 
-    // The offset in the memory of a screen; an address off the screen has none.
+    /// The offset in the memory of a screen; an address off the screen has none.
     pub fn offset(self, size: Size) -> Option<Offset>
         ensures { result ≡ offset_of size self }
     {
@@ -83,7 +83,7 @@ impl Offset {
 }
 
 impl Place {
-    // The offset of a place on a screen, by way of its address.
+    /// The offset of a place on a screen, by way of its address.
     pub fn offset(self, size: Size) -> Option<Offset>
         ensures { result ≡ offset_at size self }
     {

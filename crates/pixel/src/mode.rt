@@ -1,10 +1,10 @@
-// Modes: where a window's first cell is, and how a place steps through the window.
+//! Modes: where a window's first cell is, and how a place steps through the window.
 ghost use Rattle.std.specs.Prelude.{◌≡◌, if◌then◌else◌};
 ghost use Rattle.pixel.specs.Modes.{NamesMode, mode_number, mode_of, moved, passes, start_corner, stepped};
 
 use crate::rect::{Place, Rect};
 
-// To the right or to the left, down or up, and whether along the column first (vertical) or along the row.
+/// To the right or to the left, down or up, and whether along the column first (vertical) or along the row.
 #[derive(Clone, Copy, Debug, PartialEq, Eq, Hash)]
 pub struct Mode {
     pub down: bool,
@@ -13,7 +13,8 @@ pub struct Mode {
 }
 
 impl Mode {
-    // The mode of a number: bit 2 down, bit 1 right, bit 0 column first; higher bits are ignored, so it is no `From`.
+    /// The mode of a number: bit 2 down, bit 1 right, bit 0 column first; higher bits are ignored.
+    // Those are lost, so it is no `From`.
     pub fn from_number(number: u8) -> Mode
         ensures { result ≡ mode_of number }
     {
@@ -25,7 +26,7 @@ impl Mode {
     }
 }
 
-// A number that names no mode: one above 7.
+/// A number that names no mode: one above 7.
 #[derive(Clone, Copy, Debug, PartialEq, Eq, Hash)]
 pub struct UnknownMode(pub u8);
 
@@ -95,7 +96,8 @@ impl Way {
     // A step: `v` moves along this way, and where it passes the edge `w` moves along the other.
     fn step(self, other: Way, v: u16, w: u16) -> (u16, u16)
         ensures first { result.0 ≡ moved self.up self.low self.high v }
-        ensures second { result.1 ≡ (if passes self.up self.low self.high v then moved other.up other.low other.high w else w) }
+        ensures second { result.1 ≡
+            (if passes self.up self.low self.high v then moved other.up other.low other.high w else w) }
     {
         let w = if self.at_edge(v) { other.advance(w) } else { w };
         (self.advance(v), w)
@@ -123,7 +125,7 @@ impl Rect {
         }
     }
 
-    // The start corner: left if the mode goes right, else right; top if it goes down, else bottom.
+    /// The start corner: left if the mode goes right, else right; top if it goes down, else bottom.
     pub fn start(self, mode: Mode) -> Place
         ensures { result ≡ start_corner self mode }
     {
@@ -132,8 +134,8 @@ impl Rect {
         Place { x, y }
     }
 
-    // One step: row first, x moves one, and where it passes the edge y moves too; column first exchanges x and y.
-    // A place outside the window steps by the same rule: beyond an edge counts as at it.
+    /// One step: row first, x moves one, and where it passes the edge y moves too; column first exchanges x and y.
+    /// A place outside the window steps by the same rule: beyond an edge counts as at it.
     pub fn step(self, mode: Mode, place: Place) -> Place
         ensures { result ≡ stepped self mode place }
     {

@@ -1,4 +1,4 @@
-// Sizes, places and rectangles. A cell (x, y) is column x from the left and row y from the top, from 0.
+//! Sizes, places and rectangles. A cell (x, y) is column x from the left and row y from the top, from 0.
 ghost use Rattle.std.specs.Prelude.{◌≡◌};
 ghost use Rattle.pixel.specs.Rects.{fits_in, holds_place};
 
@@ -14,7 +14,7 @@ pub struct Place {
     pub y: u16,
 }
 
-// Both edges of a rectangle belong to it.
+/// Both edges of a rectangle belong to it.
 #[derive(Clone, Copy, Debug, PartialEq, Eq, Hash)]
 pub struct Rect {
     pub left: u16,
@@ -24,7 +24,7 @@ pub struct Rect {
 }
 
 impl Rect {
-    // Whether it lies inside a screen: left ≤ right < width and top ≤ bottom < height.
+    /// Whether it lies inside a screen: left ≤ right < width and top ≤ bottom < height.
     pub fn fits(self, size: Size) -> bool
         ensures { result ≡ fits_in size self }
     {

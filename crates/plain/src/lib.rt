@@ -1,4 +1,4 @@
-// The plain glass: cells in memory with no controller before them. It carries each colour unchanged.
+//! The plain glass: cells in memory with no controller before them. It carries each colour unchanged.
 #![tactic(auto)]
 
 ghost use Rattle.std.specs.Prelude.{◌≡◌, length};
@@ -16,6 +16,7 @@ use glass::{Glass, GlassFault, checks};
 use pixel::mode::Mode;
 use pixel::rect::{Place, Rect, Size};
 
+// No `impl Model`: its contracts speak of the memory itself.
 #[derive(Drop)]
 pub struct PlainGlass<M> {
     memory: M,
@@ -30,10 +31,11 @@ pub struct PlainGlass<M> {
 }
 
 impl<M: CellMemory> PlainGlass<M> {
-    // A new glass, every cell 0. Where `check` refuses size and memory it is one of 0 × 0, and the memory is untouched.
+    /// A new glass, every cell 0. Where `check` refuses size and memory it is one of 0 × 0, and the memory is untouched.
     pub fn fit(mut memory: M, size: Size) -> Self
         ensures reached { PlainReached M.cells result }
-        ensures new { Same (plain_panel M.cells result) (new_panel (fitted_size size (length (M.cells memory))) (λ c. c)) }
+        ensures new { Same (plain_panel M.cells result)
+            (new_panel (fitted_size size (length (M.cells memory))) (λ c. c)) }
         ensures memory { M.cells result.memory ≡ fitted_cells size (M.cells memory) }
         ensures spared { SparedUnfit M.cells size memory result.memory }
     {
@@ -54,15 +56,19 @@ impl<M: CellMemory> PlainGlass<M> {
         requires reached { PlainReached M.cells self.old }
         requires taken { InkTaken self.old.asleep self.old.window colour window }
         ensures stays { PlainReached M.cells self.new }
-        ensures after { Same (plain_panel M.cells self.new) (inked colour (plain_panel M.cells self.old)) }
+        ensures after { Same (plain_panel M.cells self.new)
+            (inked colour (plain_panel M.cells self.old)) }
     {
         self.put(window, colour);
     }
 
     // The colour meets the cell at the place, and the place steps.
     fn put(&mut self, window: Rect, colour: u32)
-        ensures memory { M.cells self.new.memory ≡ memory_met self.old.mask colour (offset_at self.old.size self.old.place) (M.cells self.old.memory) }
-        ensures rest { self.new ≡ record self.old { memory = self.new.memory; place = stepped window self.old.mode self.old.place } }
+        ensures memory { M.cells self.new.memory ≡
+            memory_met self.old.mask colour (offset_at self.old.size self.old.place)
+            (M.cells self.old.memory) }
+        ensures rest { self.new ≡
+            record self.old { memory = self.new.memory; place = stepped window self.old.mode self.old.place } }
     {
         cells::ink(&mut self.memory, self.size, self.place, self.mask, colour);
         self.place = window.step(self.mode, self.place);

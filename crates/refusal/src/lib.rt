@@ -1,4 +1,4 @@
-// Layers: who found what a call was refused for.
+//! Layers: who found what a call was refused for.
 #![tactic(auto)]
 
 ghost use Rattle.std.specs.Prelude.{◌≡◌, Some};
@@ -15,7 +15,7 @@ pub enum Layer {
 }
 
 impl Layer {
-    // The word by which a layer is told.
+    /// The word by which a layer is told.
     pub fn name(self) -> &'static str
         ensures { result.now ≡ layer_name self }
     {

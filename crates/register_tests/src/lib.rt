@@ -1,4 +1,4 @@
-// Tests of each register by its number, over the 16-bit link, whose beats are the words themselves.
+//! Tests of each register by its number, over the 16-bit link, whose beats are the words themselves.
 #![tactic(auto)]
 
 #[cfg(test)]

@@ -1,4 +1,4 @@
-// The controller's registers, and what a word makes of them.
+//! The controller's registers, and what a word makes of them.
 #![tactic(auto)]
 
 ghost use Rattle.std.specs.Prelude.{◌≡◌};
@@ -13,18 +13,18 @@ use pixel::colour::{blue, exchange, green, mix, red};
 use pixel::mode::Mode;
 use pixel::rect::{Place, Rect, Size};
 
-// The screen's size and what the registers hold. Only a screen of 0 × 0 has no window.
+/// The screen's size and what the registers hold. Only a screen of 0 × 0 has no window; its other registers have their values.
 #[derive(Clone, Copy, Debug, PartialEq, Eq, Hash)]
 pub struct Registers {
     pub size: Size,
-    // where colours go, and where the next one goes (the address counter)
+    /// where colours go, and where the next one goes (the address counter)
     pub window: Option<Rect>,
     pub place: Place,
     pub mode: Mode,
-    // red and blue of arriving colours are exchanged
+    /// red and blue of arriving colours are exchanged
     pub bgr: bool,
     pub mask: u32,
-    // the register that the next word goes to
+    /// the register that the next word goes to: a number, since any of 128 may be sent
     pub index: u8,
     pub asleep: bool,
 }
@@ -38,7 +38,7 @@ fn edges(word: u16, limit: u16) -> Option<(u16, u16)>
 }
 
 impl Registers {
-    // Power-on: the whole screen is the window; a size with a side of 0 has none.
+    /// Power-on: the whole screen is the window; a size with a side of 0 has none.
     pub fn power_on(size: Size) -> Registers
         ensures { result ≡ power_on size }
     {
@@ -65,14 +65,14 @@ impl Registers {
         }
     }
 
-    // An index is always taken.
+    /// An index is always taken.
     pub fn point(&mut self, index: u8)
         ensures { self.new ≡ with_index index self.old }
     {
         self.index = index;
     }
 
-    // A word goes to the register that the index names; asleep, every word but R10h's is dropped.
+    /// A word goes to the register that the index names; asleep, every word but R10h's is dropped.
     pub fn write(&mut self, word: u16)
         ensures { self.new ≡ written word self.old }
     {
@@ -81,14 +81,14 @@ impl Registers {
         }
     }
 
-    // The place after a colour was written there.
+    /// The place after a colour was written there.
     pub fn advance(&mut self, window: Rect)
         ensures { self.new ≡ with_place (stepped window self.old.mode self.old.place) self.old }
     {
         self.place = window.step(self.mode, self.place);
     }
 
-    // A colour as it goes to memory.
+    /// A colour as it goes to memory.
     pub fn arriving(&self, colour: u32) -> u32
         ensures { result ≡ by_bgr self.now.bgr colour }
     {

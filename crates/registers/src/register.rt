@@ -1,4 +1,4 @@
-// The registers that the controller knows, each by its index.
+//! The registers that the controller knows, each by its index.
 ghost use Rattle.std.specs.Prelude.{◌≡◌};
 ghost use Rattle.link.specs.declared.Item.TheVariants.{Index};
 ghost use Rattle.registers.specs.Register.{Decodes, register_number};
@@ -7,23 +7,23 @@ use link::Item;
 
 #[derive(Clone, Copy, Debug, PartialEq, Eq, Hash)]
 pub enum Register {
-    // mode and BGR
+    /// mode and BGR
     EntryMode = 0x03,
-    // sleep
+    /// sleep
     Power = 0x10,
-    // the place, as an address
+    /// the place, as an address
     Address = 0x21,
-    // where colours go: no register takes a word there
+    /// where colours go: no register takes a word there
     Colours = 0x22,
-    // the mask of green and blue
+    /// the mask of green and blue
     GreenBlueMask = 0x23,
     RedMask = 0x24,
-    // the window's columns and rows
+    /// the window's columns and rows
     Columns = 0x44,
     Rows = 0x45,
 }
 
-// An index that names no register here.
+/// An index that names no register here.
 #[derive(Clone, Copy, Debug, PartialEq, Eq, Hash)]
 pub struct UnknownRegister(pub u8);
 

@@ -1,4 +1,4 @@
-// The 8-bit link: two beats, upper first, the bytes of the word or the short colour.
+//! The 8-bit link: two beats, upper first, the bytes of the word or the short colour.
 ghost use Rattle.std.specs.Prelude.{◌≡◌, None};
 ghost use Rattle.link.specs.Formats.{held_half, state_of};
 ghost use Rattle.short_links.specs.ShortFormats.{format_8};

@@ -1,4 +1,4 @@
-// The links that carry the short colour: 16-bit, 8-bit and serial.
+//! The links that carry the short colour: 16-bit, 8-bit and serial.
 #![tactic(auto)]
 
 ghost use Rattle.std.specs.Prelude.{◌≡◌, ◌==◌};

@@ -1,4 +1,4 @@
-// The serial link: a start byte, then two bytes to an item, as on the 8-bit link.
+//! The serial link: a start byte, then two bytes to an item, as on the 8-bit link.
 ghost use Rattle.std.specs.Prelude.{◌≡◌};
 ghost use Rattle.link.specs.Formats.{state_of};
 ghost use Rattle.short_links.specs.ShortFormats.{format_serial, held_serial, start_byte};
@@ -8,7 +8,7 @@ ghost use Rattle.std.proofs.Common.{rules};
 use crate::{carried, item_from, word_of};
 use link::{Item, Link, LinkFault};
 
-// Which of two controllers on one line this is.
+/// Which of two controllers on one line this is.
 #[derive(Clone, Copy, Debug, PartialEq, Eq, Hash)]
 pub enum SerialId {
     Zero = 0,

@@ -1,4 +1,4 @@
-// The 16-bit link: one beat, the word or the short colour.
+//! The 16-bit link: one beat, the word or the short colour.
 ghost use Rattle.std.specs.Prelude.{[]};
 ghost use Rattle.link.specs.Formats.{state_of};
 ghost use Rattle.short_links.specs.ShortFormats.{format_16};

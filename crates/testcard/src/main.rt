@@ -1,4 +1,4 @@
-// Draws the test card over each of the five links, and prints it.
+//! Draws the test card over each of the five links, and prints it.
 #![tactic(auto)]
 
 use card::page::page;

@@ -1,4 +1,4 @@
-// Cases worked by hand, held against the definitions that the contracts use and against the code.
+//! Cases worked by hand, held against the definitions that the contracts use and against the code.
 #![tactic(auto)]
 
 ghost use Rattle.std.specs.Prelude.{◌≡◌};
@@ -11,7 +11,7 @@ use pixel::mode::Mode;
 use pixel::rect::{Place, Rect};
 use short_links::eight::EightBit;
 
-// The cases that the code is run on: white over the 8-bit link, one step in mode 6 and in mode 7, and a mask.
+/// The cases that the code is run on: white over the 8-bit link, one step in mode 6 and in mode 7, and a mask.
 #[derive(Clone, Copy, Debug, PartialEq, Eq, Hash)]
 pub struct Cases {
     pub white: u32,
