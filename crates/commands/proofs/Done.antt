@@ -1,13 +1,16 @@
 -- What each call's items leave in the controller is what the call leaves of a glass.
-use Rattle.std.proofs.Common.{◌≡◌, ℕ, ◌<◌, Bool, true, false, List, [], ◌∷◌, length, Some, Option, refl, arith}
+use Rattle.std.proofs.Common.{◌≡◌, ℕ, ◌+◌, ◌*◌, ◌<◌, Bool, true, false, List, [], ◌∷◌, length, Some, None, Option, refl, arith}
 use Rattle.std.proofs.lemmas.Bool.Decides.{nat_tests}
+use Rattle.std.proofs.lemmas.List.{get_or-replicate, length-replicate}
 use Rattle.pixel.specs.declared.rect.Place.{Place}
 use Rattle.pixel.specs.declared.rect.Rect.{Rect}
-use Rattle.pixel.specs.Addresses.{offset_at}
+use Rattle.pixel.specs.declared.rect.Size.{Size}
+use Rattle.pixel.specs.Addresses.{address_of, offset_at}
 use Rattle.pixel.specs.Modes.{mode_of, stepped}
 use Rattle.pixel.specs.Rects.{holds_place}
 use Rattle.pixel.proofs.Places.{index_below}
 use Rattle.cells.specs.Memory.{memory_met}
+use Rattle.cells.specs.Sizes.{fitted_size}
 use Rattle.cells.proofs.Mets.{met_length}
 use Rattle.link.specs.declared.Item.{Item}
 use Rattle.link.specs.Formats.{Format}
@@ -15,9 +18,11 @@ use Rattle.registers.specs.declared.Registers.{Registers}
 use Rattle.registers.specs.Registers.{with_index, with_place, with_sleep}
 use Rattle.registers.specs.Chip.{Chip, Screen, Sound, chip_of, obeyed}
 use Rattle.registers.proofs.Keeps.{obeyed_sound}
+use Rattle.lgdp4522.specs.Wired.{fitted_chip}
+use Rattle.lgdp4522.proofs.Sounds.{fitted_sound}
 use Rattle.host.specs.Sent.{all_obeyed, as_carried, expected}
 use Rattle.glass.specs.Calls.{FrameTaken, GoTaken, InkTaken, framed, gone, inked, slept}
-use Rattle.glass.specs.Panels.{Panel, Possible, Same}
+use Rattle.glass.specs.Panels.{Panel, Possible, Same, new_panel}
 use Rattle.glass.proofs.Keeps.{mode_below}
 use Rattle.glass.proofs.Pictures.{met_held}
 use Rattle.glass.proofs.Sames.{same_itself}
@@ -30,7 +35,7 @@ module _ (o : Option Rect) (s : Chip) (z : ChipReached o s) where
   framing : (q : Rect) → o ≡ Some q → Screen s.registers.size s.memory q s.registers.place
   framing q e = let a = rw e at z.aimed in rw a.0 at z.sound.window
 
-  -- a place in the window has an address
+  -- a place in the window lies in the first 256 columns and rows
   pub narrow : (q : Rect) (at : Place) → o ≡ Some q → holds_place q at ≡ true → (at.x < 256) × (at.y < 256)
   narrow q at e within = let d = framing q e in (grind (arith, nat_tests), grind (arith, nat_tests))
 
@@ -90,3 +95,16 @@ module _ {B : Type 0} (v : Format B) where
 
     pub rest_done : (b : Bool) → Done (sleep_items b) s o (slept b panel)
     rest_done b = done_by {t = chip_of s.memory (with_index 34 (with_sleep b r))} (grind (arith, nat_tests)) (grind (arith, nat_tests)) refl refl z.bgr (grind (arith, nat_tests)) (same_itself _)
+
+-- a place in the window has an address
+pub address_there : (q : Rect) (at : Place) (s : Chip) → holds_place q at ≡ true → ChipReached (Some q) s → address_of at ≡ Some (record { number = at.y * 256 + at.x })
+address_there q at s within z = let n = narrow (Some q) s z q at refl within in grind (arith, nat_tests)
+
+-- a fitted controller, on which no frame was set, is a new glass
+pub fit_done : (s : Size) (cells : List ℕ) (f f0 : ℕ → ℕ) (t : Chip) → f ≡ f0 → t ≡ fitted_chip s cells → record { stays : ChipReached None t; after : Same (chip_panel None f t) (new_panel (fitted_size s (length cells)) f0) }
+fit_done s cells f f0 t same e =
+    rw (e, same)
+    (record {
+      stays = record { sound = fitted_sound s cells; size = grind (arith, nat_tests); served = grind (arith, nat_tests, length-replicate); bgr = grind (arith, nat_tests); aimed = tt };
+      after = record { size = grind (arith, nat_tests); cells = λ at a b. grind (arith, nat_tests, index_below, get_or-replicate); window = refl; place = refl; mode = refl; mask = refl; asleep = grind (arith, nat_tests); carried = refl };
+    })

@@ -10,11 +10,15 @@ use Rattle.pixel.specs.Modes.{mode_number, mode_of}
 use Rattle.pixel.proofs.Meeting.{met_bits, met_fits}
 use Rattle.pixel.proofs.Windows.{start_holds, step_holds}
 use Rattle.glass.specs.Panels.{Panel, Possible, WindowRule}
-use Rattle.glass.specs.Calls.{frame_number, framed, go_number, gone, ink_number, inked, same_place, slept}
+use Rattle.glass.specs.Calls.{FrameTaken, frame_number, frame_refusal, framed, go_number, gone, ink_number, inked, same_place, slept}
 
 -- a mode of three flags has a number below 8
 pub mode_below : (m : Mode) → mode_number m < 8
 mode_below m = grind (arith, nat_tests)
+
+-- what an accepted frame has shown of its arguments
+pub frame_taken : (asleep : Bool) (s : Size) (r : Rect) (m k : ℕ) → frame_refusal asleep s r m k ≡ 0 → FrameTaken asleep s r m k
+frame_taken asleep s r m k e = record { awake = grind (arith, nat_tests); inside = grind (arith, nat_tests); mode_fits = grind (arith, nat_tests); mask_fits = grind (arith, nat_tests) }
 
 pub frame_keeps : (r : Rect) (m k : ℕ) (p : Panel) → frame_number r m k p ≡ 0 → Possible p → Possible (framed r m k p)
 frame_keeps r m k p e z =
@@ -37,7 +41,7 @@ go_keeps at p e z =
     }
 
 -- with a window or without, the mask has 18 bits
-mask_below : (s : Size) (o : Option Rect) (a : Place) (m : Mode) (k : ℕ) → WindowRule s o a m k → k < 262144
+pub mask_below : (s : Size) (o : Option Rect) (a : Place) (m : Mode) (k : ℕ) → WindowRule s o a m k → k < 262144
 mask_below s o a m k w = grind (arith, nat_tests)
 
 pub ink_kept : (c : ℕ) (p : Panel) → Possible p → Possible (inked c p)

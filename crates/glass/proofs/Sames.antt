@@ -1,5 +1,5 @@
 -- Panels that are the same can stand for one another.
-use Rattle.std.proofs.Common.{sym, refl, ◌∙◌}
+use Rattle.std.proofs.Common.{◌≡◌, sym, refl, ◌∙◌}
 use Rattle.glass.specs.Panels.{Panel, Possible, Same}
 
 pub same_itself : (p : Panel) → Same p p
@@ -28,6 +28,10 @@ same_joined p q r s t = record {
   asleep = s.asleep ∙ t.asleep;
   carried = s.carried ∙ t.carried;
 }
+
+-- equal panels are the same
+pub same_if_equal : (p q : Panel) → p ≡ q → Same p q
+same_if_equal p q e = rw e (same_itself q)
 
 pub possible_stands : (p q : Panel) → Same p q → Possible q → Possible p
 possible_stands p q s z = record {

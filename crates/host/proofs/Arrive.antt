@@ -1,20 +1,21 @@
 -- Signals taken in order, and the items that they come to.
-use Rattle.std.proofs.Common.{◌≡◌, ℕ, ◌+◌, ◌-◌, ◌^◌, ◌<◌, ◌≤◌, min, Bool, true, false, List, [], ◌∷◌, ◌++◌, length, get_or, drop, Some, sym, refl, ap, ◌∙◌, subst, append-nil, arith}
-use Rattle.std.specs.List.{slice_get}
+use Rattle.std.proofs.Common.{◌≡◌, ℕ, ◌+◌, ◌-◌, ◌^◌, ◌<◌, ◌≤◌, zero, suc, min, Bool, true, false, List, [], ◌∷◌, ◌++◌, length, get_or, drop, is_some, is_ok, Some, Option, Result, sym, refl, ap, ◌∙◌, subst, append-nil, arith}
+use Rattle.std.specs.List.{slice_get, AllByRecursion}
 use Rattle.std.proofs.lemmas.List.{at_drop_more, at_drop_all}
-use Rattle.std.proofs.lemmas.Option.{get_or_from_slice_get}
+use Rattle.std.proofs.lemmas.Option.{get_or_from_slice_get, slice_get_cases}
 use Rattle.std.proofs.lemmas.Bool.Decides.{nat_tests}
 use Rattle.link.specs.declared.Item.{Item}
 use Rattle.link.specs.declared.Item.TheVariants.{Index, Word, Colour}
+use Rattle.link.specs.declared.LinkFault.{LinkFault}
 use Rattle.link.specs.Items.{select_level}
 use Rattle.link.specs.Formats.{Arrives, Format, Lawful, taken, took}
 use Rattle.registers.specs.Chip.{Chip, at_22h, obeyed}
 use Rattle.registers.proofs.Keeps.{colour_index, word_index}
-use Rattle.lgdp4522.specs.Wired.{Signal, Wired, after_all, after_beat, after_one, obeyed_if, selected, wired_of}
+use Rattle.lgdp4522.specs.Wired.{Signal, Wired, after_all, after_beat, after_one, beat_answer, obeyed_if, selected, wired_of}
 use Rattle.lgdp4522.proofs.Sounds.{format_kept}
 use Rattle.host.specs.Sent.{Went, all_obeyed, as_carried, beat_signals, beats_of, expected, item_signals, signals}
 
-after_append : {B : Type 0} (xs ys : List (Signal B)) (s : Wired B) → after_all (xs ++ ys) s ≡ after_all ys (after_all xs s)
+pub after_append : {B : Type 0} (xs ys : List (Signal B)) (s : Wired B) → after_all (xs ++ ys) s ≡ after_all ys (after_all xs s)
 after_append [] ys s = refl
 after_append (x ∷ xs) ys s = after_append xs ys (after_one x s)
 
@@ -43,7 +44,7 @@ first_fits f (Index n) is s e = (grind (arith, nat_tests), grind (arith, nat_tes
 first_fits f (Word n) is s e = ((grind (arith, nat_tests), grind (arith, nat_tests)), grind (arith, nat_tests, word_index n s))
 first_fits f (Colour n) is s e = ((grind (arith, nat_tests), grind (arith, nat_tests)), grind (arith, nat_tests, colour_index (f.carried n) s))
 
-items_arrive : {B : Type 0} (w c : ℕ) (f : Format B) (is : List Item) (t : Wired B) → Lawful w c f → t.link.format ≡ f → expected t.chip.registers.index is ≡ true → (after_all (signals f is) t).chip ≡ all_obeyed f is t.chip
+pub items_arrive : {B : Type 0} (w c : ℕ) (f : Format B) (is : List Item) (t : Wired B) → Lawful w c f → t.link.format ≡ f → expected t.chip.registers.index is ≡ true → (after_all (signals f is) t).chip ≡ all_obeyed f is t.chip
 items_arrive w c f [] t law same e = refl
 items_arrive w c f (i ∷ is) t law same e =
     let q = after_all (item_signals f i) t in
@@ -58,6 +59,28 @@ items_arrive w c f (i ∷ is) t law same e =
 -- what was sent, went
 pub went : {B : Type 0} (w c : ℕ) (is : List Item) (s t : Wired B) → Lawful w c s.link.format → t ≡ after_all (signals s.link.format is) s → Went is s t
 went w c is s t law e = record { same_format = ap (λ v. v.link.format) e ∙ format_kept (signals s.link.format is) s; beats = e; arrived = λ x. ap (λ v. v.chip) e ∙ items_arrive w c s.link.format is s law refl x }
+
+-- within a list there is an element, and what holds of each holds of it
+pub beat_there : {B : Type 0} (f v : Format B) (i : Item) (n k : ℕ) (o : Option B) → v ≡ f → n < k → k ≡ length (f.beats i) → o ≡ slice_get (v.beats i) n → is_some o ≡ true
+beat_there f v i n k o same h ek e = rw (e, same) (grind (arith, slice_get_cases (f.beats i) n))
+
+pub all_at : {X : Type 0} (P : X → Type 0) (xs : List X) (n : ℕ) (x : X) → AllByRecursion P xs → slice_get xs n ≡ Some x → P x
+all_at P [] n x a e = cc
+all_at P (y ∷ ys) zero x a e = let same : y ≡ x = cc in subst P same a.0
+all_at P (y ∷ ys) (suc n) x a e = all_at P ys n x a.1 e
+
+-- a host's beat is never refused
+pub accepted : {B : Type 0} {w c : ℕ} (f v : Format B) (i : Item) (n : ℕ) (b : B) (r : Result (Unit {0}) LinkFault) → Lawful w c f → v ≡ f → Some b ≡ slice_get (v.beats i) n → r ≡ beat_answer v b → is_ok r ≡ true
+accepted f v i n b r law same e a =
+    let w : f.wide b ≡ false = all_at (λ x. f.wide x ≡ false) (f.beats i) n b (law.narrow i) (sym (e ∙ ap (λ g. slice_get (g.beats i) n) same)) in
+    rw (a, same, w) refl
+
+-- what two equal links answer
+pub counted_by : {L B : Type 0} (format : L → Format B) (l l2 : L) (i : Item) (k : ℕ) → k ≡ length ((format l).beats i) → l ≡ l2 → k ≡ length ((format l2).beats i)
+counted_by format l l2 i k e same = e ∙ ap (λ m. length ((format m).beats i)) same
+
+pub beat_by : {L B : Type 0} (format : L → Format B) (l l2 : L) (i : Item) (n : ℕ) (o : Option B) (b : B) → o ≡ Some b → o ≡ slice_get ((format l).beats i) n → l ≡ l2 → Some b ≡ slice_get ((format l2).beats i) n
+beat_by format l l2 i n o b is e same = sym is ∙ e ∙ ap (λ m. slice_get ((format m).beats i) n) same
 
 -- one turn of the loop over beats
 pub beat_again : {B : Type 0} (bs : List B) (high : Bool) (n : ℕ) (b : B) (s s2 e : Wired B) → n < length bs → Some b ≡ slice_get bs n → s2 ≡ after_beat (taken high b) s → after_all (beat_signals high (drop n bs)) s ≡ e → after_all (beat_signals high (drop (n + 1) bs)) s2 ≡ e

@@ -1,3 +1,4 @@
+pub mod Colouring
 pub mod Meeting
 pub mod Windows
 pub mod Places

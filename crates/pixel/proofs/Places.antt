@@ -1,11 +1,11 @@
 -- Places on a screen have addresses and offsets, each its own.
-use Rattle.std.proofs.Common.{◌≡◌, ℕ, ◌+◌, ◌*◌, ◌<◌, ◌≤◌, Some, arith}
-use Rattle.std.proofs.lemmas.Nat.{mul-add-lt, same_from_place}
+use Rattle.std.proofs.Common.{◌≡◌, ℕ, ◌+◌, ◌*◌, ◌/◌, ◌%◌, ◌<◌, ◌≤◌, Some, arith}
+use Rattle.std.proofs.lemmas.Nat.{mod-mul-add, mul-add-lt, same_from_place}
 use Rattle.pixel.specs.declared.address.Address.{Address}
 use Rattle.pixel.specs.declared.address.Offset.{Offset}
 use Rattle.pixel.specs.declared.rect.Place.{Place}
 use Rattle.pixel.specs.declared.rect.Size.{Size}
-use Rattle.pixel.specs.Addresses.{address_at, address_of, cell_index, offset_at, place_of}
+use Rattle.pixel.specs.Addresses.{address_at, address_of, cell_index, offset_at, offset_of, place_of}
 
 abbrev pub offset_is : ℕ → Offset
 offset_is i = record { index = i }
@@ -27,3 +27,12 @@ index_apart s p q a b e = let h = same_from_place p.y p.x q.y q.x s.width a b e 
 
 pub address_back : (p : Place) (a : Address) → address_of p ≡ Some a → place_of a ≡ p
 address_back p a e = grind arith
+
+-- an address that has an offset is on the screen, and the offset is its cell's index
+pub record Offsets (s : Size) (a : Address) (o : Offset) : Type 0 where
+  pub inside : o.index < s.width * s.height
+  pub row : o.index / s.width ≡ (place_of a).y
+  pub column : o.index % s.width ≡ (place_of a).x
+
+pub offsets : (s : Size) (a : Address) (o : Offset) → offset_of s a ≡ Some o → Offsets s a o
+offsets s a o e = record { inside = grind (arith, mul-add-lt); row = grind arith; column = grind (arith, mod-mul-add) }

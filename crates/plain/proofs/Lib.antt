@@ -1,1 +1,1 @@
-mod Plains
+pub mod Plains

@@ -2,14 +2,11 @@
 #![tactic(auto)]
 
 ghost use Rattle.std.specs.Prelude.{◌≡◌, length};
-ghost use Rattle.pixel.specs.Addresses.{offset_at};
-ghost use Rattle.pixel.specs.Modes.{stepped};
-ghost use Rattle.cells.specs.Memory.{memory_met};
 ghost use Rattle.cells.specs.Sizes.{SparedUnfit, fitted_cells, fitted_size};
 ghost use Rattle.glass.specs.Calls.{InkTaken, inked};
 ghost use Rattle.glass.specs.Panels.{Same, new_panel};
 ghost use Rattle.glass.proofs.Keeps.{mode_below};
-ghost use Rattle.plain.specs.Plain.{PlainReached, plain_panel};
+ghost use Rattle.plain.specs.Plain.{Landed, PlainReached, plain_panel};
 
 use cells::CellMemory;
 use glass::{Glass, GlassFault, checks};
@@ -64,11 +61,7 @@ impl<M: CellMemory> PlainGlass<M> {
 
     // The colour meets the cell at the place, and the place steps.
     fn put(&mut self, window: Rect, colour: u32)
-        ensures memory { M.cells self.new.memory ≡
-            memory_met self.old.mask colour (offset_at self.old.size self.old.place)
-            (M.cells self.old.memory) }
-        ensures rest { self.new ≡
-            record self.old { memory = self.new.memory; place = stepped window self.old.mode self.old.place } }
+        ensures { Landed M.cells window colour self.old self.new }
     {
         cells::ink(&mut self.memory, self.size, self.place, self.mask, colour);
         self.place = window.step(self.mode, self.place);
