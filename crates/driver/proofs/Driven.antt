@@ -16,4 +16,4 @@ drove w d =
     let memory = ap (λ c. c.memory) left in
     let registers = ap (λ c. c.registers) left in
     let carried = ap (λ f. f.carried) w.same_format in
-    record { stays = rw (memory, registers) d.stays; after = rw (memory, registers, carried) d.after; beats = w.beats }
+    record { stays = rw (memory, registers) d.stays; after = rw (memory, registers, carried) d.after; same_format = w.same_format; beats = w.beats }

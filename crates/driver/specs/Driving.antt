@@ -23,8 +23,10 @@ abbrev pub sent_by : {A B : Type 0} → Result A GlassFault → List Item → Wi
 sent_by (Ok _) items s = sent items s
 sent_by (Err _) items s = s
 
--- an accepted call, from s to t: it left a state that is reached, the panel that it makes, and the controller as its items do
+-- an accepted call, from s to t: it left a state that is reached, the panel that it makes, the link's format as it was, and
+-- the controller as its items do
 pub record Drove {B L M : Type 0} (state : L → State B) (cells : M → List ℕ) (items : List Item) (done : Panel → Panel) (s t : Driver L M B) : Type 0 where
   pub stays : DriverReached cells t
   pub after : Same (driver_panel state cells t) (done (driver_panel state cells s))
+  pub same_format : (state t.chip.link).format ≡ (state s.chip.link).format
   pub beats : wired state cells t.chip ≡ sent items (wired state cells s.chip)

@@ -36,6 +36,7 @@ impl<L: Link, M: CellMemory> Driver<L, M> {
         ensures reached { DriverReached M.cells result }
         ensures new { Same (driver_panel L.state M.cells result)
             (new_panel (fitted_size size (length (M.cells memory))) (L.state link).format.carried) }
+        ensures format { (L.state result.chip.link).format ≡ (L.state link).format }
         ensures chip { wired L.state M.cells result.chip ≡
             fitted (L.state link).format size (M.cells memory) }
         ensures spared { SparedUnfit M.cells size memory result.chip.memory }
@@ -85,8 +86,9 @@ impl<L: Link, M: CellMemory> Driver<L, M> {
     }
 }
 
-// Beside what every glass promises, each call that sends says which beats it leaves its controller with. That is a clause
-// of its own: with both in one record the goal of `frame` does not close without a proof file.
+// Beside what every glass promises, each call that sends says that its link keeps its format, and which beats it leaves its
+// controller with. Those are clauses of their own: with call and beats in one record the goal of `frame` does not close
+// without a proof file.
 impl<L: Link, M: CellMemory> Glass for Driver<L, M> {
     ghost means = { λ s. driver_panel L.state M.cells s };
 
@@ -99,6 +101,8 @@ impl<L: Link, M: CellMemory> Glass for Driver<L, M> {
         requires { DriverReached M.cells self.old }
         ensures call { Called (DriverReached M.cells) (driver_panel L.state M.cells)
             (frame_number rect mode mask) (framed rect mode mask) result self.old self.new }
+        ensures format { (L.state self.new.chip.link).format ≡
+            (L.state self.old.chip.link).format }
         ensures beats { wired L.state M.cells self.new.chip ≡
             sent_by result (frame_items rect (mode_of mode) mask)
             (wired L.state M.cells self.old.chip) }
@@ -112,6 +116,8 @@ impl<L: Link, M: CellMemory> Glass for Driver<L, M> {
         requires { DriverReached M.cells self.old }
         ensures call { Called (DriverReached M.cells) (driver_panel L.state M.cells)
             (go_number place) (gone place) result self.old self.new }
+        ensures format { (L.state self.new.chip.link).format ≡
+            (L.state self.old.chip.link).format }
         ensures beats { wired L.state M.cells self.new.chip ≡
             sent_by result (go_items place) (wired L.state M.cells self.old.chip) }
     {
@@ -124,6 +130,8 @@ impl<L: Link, M: CellMemory> Glass for Driver<L, M> {
         requires { DriverReached M.cells self.old }
         ensures call { Called (DriverReached M.cells) (driver_panel L.state M.cells)
             (ink_number colour) (inked colour) result self.old self.new }
+        ensures format { (L.state self.new.chip.link).format ≡
+            (L.state self.old.chip.link).format }
         ensures beats { wired L.state M.cells self.new.chip ≡
             sent_by result (ink_items colour) (wired L.state M.cells self.old.chip) }
     {
