@@ -2,7 +2,6 @@
 use Rattle.std.proofs.Common.{◌≡◌, ℕ, ◌+◌, ◌<◌, Bool, true, false, cond, ◌&&◌, eqb, List, [], ◌∷◌, length, get_or, drop, refl, arith}
 use Rattle.std.proofs.lemmas.Bool.Decides.{nat_tests}
 use Rattle.std.proofs.lemmas.List.{drop_more}
-use Rattle.glass.specs.Faults.{answered}
 use Rattle.glass.specs.Panels.{Panel, Same}
 use Rattle.glass.proofs.Alike.{frame_same, go_same, ink_same, sleep_same}
 use Rattle.glass.proofs.Sames.{same_joined}
@@ -41,5 +40,5 @@ module _ (xs : List Step) (i : ℕ) (d : Step) (h : i < length xs) (p q : Panel)
   pub next_did : (r : Panel) → Same (all_did (drop i xs) p) r → Same (all_did (drop (i + 1) xs) q) r
   next_did r e = same_joined _ _ _ (all_same (drop (i + 1) xs) q (did (get_or xs i d).call p) s) (rw (drop_more xs i d h) at e)
 
-  pub next_told : as_told (drop i xs) p ≡ (eqb (call_number (get_or xs i d).call p) (answered (get_or xs i d).answer) && as_told (drop (i + 1) xs) q)
+  pub next_told : as_told (drop i xs) p ≡ (eqb (call_number (get_or xs i d).call p) (get_or xs i d).answer && as_told (drop (i + 1) xs) q)
   next_told = rw (drop_more xs i d h, told_same (drop (i + 1) xs) q (did (get_or xs i d).call p) s) refl

@@ -1,7 +1,6 @@
 -- Calls of a glass as values: what each answers and does.
 use Rattle.std.specs.Prelude.{ℕ, Bool, true, false, if◌then◌else◌, ◌&&◌, List, [], ◌∷◌, ◌==◌}
 use Rattle.glass.specs.Calls.{frame_number, framed, go_number, gone, ink_number, inked, slept}
-use Rattle.glass.specs.Faults.{answered}
 use Rattle.glass.specs.Panels.{Panel}
 use Rattle.calls.specs.declared.Call.{Call}
 use Rattle.calls.specs.declared.Call.TheVariants.{Frame, Go, Ink, Sleep, Wake}
@@ -30,7 +29,7 @@ abbrev pub all_did : List Step → Panel → Panel
 all_did [] p = p
 all_did (s ∷ ss) p = all_did ss (did s.call p)
 
--- whether each call of a list is answered as it is said beside it
+-- whether each call of a list is answered by the number that stands beside it
 abbrev pub as_told : List Step → Panel → Bool
 as_told [] p = true
-as_told (s ∷ ss) p = call_number s.call p == answered s.answer && as_told ss (did s.call p)
+as_told (s ∷ ss) p = call_number s.call p == s.answer && as_told ss (did s.call p)

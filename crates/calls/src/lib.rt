@@ -20,11 +20,12 @@ pub enum Call {
     Wake,
 }
 
-/// A call, and how it should be answered.
+/// A call, and the number that it should be answered by: 0 if it is accepted.
+// A number and no `Result`: one that no glass answers by may be asked for too.
 #[derive(Clone, Copy, Debug, PartialEq, Eq, Hash)]
 pub struct Step {
     pub call: Call,
-    pub answer: Result<(), GlassFault>,
+    pub answer: u8,
 }
 
 /// Gives a glass one call.
@@ -48,6 +49,16 @@ pub fn perform<G: Glass>(glass: &mut G, call: Call) -> Result<(), GlassFault>
     }
 }
 
+// The number of an answer: 0 if the call was accepted.
+fn number(answer: Result<(), GlassFault>) -> u8
+    ensures { result ≡ answered answer }
+{
+    match answer {
+        Ok(()) => 0,
+        Err(fault) => fault.number(),
+    }
+}
+
 /// Gives a glass the calls of a list in order, the refused ones too, and tells whether each was answered as it should be.
 pub fn run<G: Glass>(glass: &mut G, steps: &[Step]) -> bool
     requires { G.reached glass.old }
@@ -66,8 +77,8 @@ pub fn run<G: Glass>(glass: &mut G, steps: &[Step]) -> bool
 fn give<G: Glass>(glass: &mut G, step: Step) -> bool
     requires { G.reached glass.old }
     ensures stays { G.reached glass.new }
-    ensures told { result ≡ (call_number step.call (G.means glass.old) == answered step.answer) }
+    ensures told { result ≡ (call_number step.call (G.means glass.old) == step.answer) }
     ensures after { Same (G.means glass.new) (did step.call (G.means glass.old)) }
 {
-    perform(glass, step.call) == step.answer
+    number(perform(glass, step.call)) == step.answer
 }
