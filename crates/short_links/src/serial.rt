@@ -65,9 +65,14 @@ impl Link for Serial {
     ghost lawful = { Prim.search rules };
 
     fn beat(&self, item: Item, n: usize) -> Option<u8> {
-        let first = start(self.id, item.level());
+        // no array of all three, with which the last beat takes four times as long
         let [upper, lower] = word_of(item).to_be_bytes();
-        [first, upper, lower].get(n).copied()
+        match n {
+            0 => Some(start(self.id, item.level())),
+            1 => Some(upper),
+            2 => Some(lower),
+            _ => None,
+        }
     }
 
     fn carry(&self, colour: u32) -> u32 {
