@@ -1,5 +1,5 @@
 -- The formats of the 16-bit, the 8-bit and the serial link.
-use Rattle.std.specs.Prelude.{ℕ, ◌+◌, ◌*◌, ◌%◌, Bool, true, false, if◌then◌else◌, ◌||◌, List, [], ◌∷◌, Some, None, Option, ◌==◌}
+use Rattle.std.specs.Prelude.{ℕ, ◌+◌, ◌%◌, Bool, true, false, if◌then◌else◌, ◌||◌, List, [], ◌∷◌, Some, None, Option, ◌==◌}
 use Rattle.pixel.specs.Colours.{lengthened, shortened}
 use Rattle.link.specs.declared.Item.{Item}
 use Rattle.link.specs.declared.Item.TheVariants.{Index, Word, Colour}
@@ -56,10 +56,10 @@ format_8 = record {
 -- serial: a start byte is 70h + 4 × ID + 2 × register select
 abbrev pub id_number : SerialId → ℕ
 id_number Zero = 0
-id_number One = 1
+id_number One = 4
 
 abbrev pub start_byte : SerialId → Bool → ℕ
-start_byte id high = 0x70 + 4 * id_number id + (if high then 2 else 0)
+start_byte id high = 0x70 + id_number id + (if high then 2 else 0)
 
 -- a start byte of this link
 abbrev pub starts : SerialId → ℕ → Bool
